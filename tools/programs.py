@@ -15,7 +15,7 @@ from front import kept, sources, tried, unproved
 # the program stands in place of this crate, whose definitions it uses
 NAME = "flow_rows"
 BESIDE = "graph_rows"
-ABOVE = "edge_steps transfer"
+ABOVE = "settle edge_steps transfer"
 UNUSED = ("answer.rt", "row.rt")
 
 

@@ -38,7 +38,6 @@ use Rattle.block_steps.specs.Releasing.{IsNullNow, ReleaseTail}
 use Rattle.register_steps.specs.Gaining.{GainTail}
 use Rattle.transfer.specs.Fitting.{FitsWith}
 use Rattle.transfer.proofs.HeldSizes.{size_at, mapped_fit, emptied_fit, filled_fit}
-use Rattle.transfer.proofs.KeptObjects.{KeepsObjects}
 use Rattle.transfer.proofs.Widths.{among_any, any_with, any_left}
 
 -- a place in a list of numbers
@@ -89,7 +88,7 @@ looked_is middle after among = by_tests (loses_some middle) (may_lead_anywhere m
     by_tests true false among = none_in after among
     by_tests true true among = only_one middle after among
 
-module _ (flow : Flow) (standing : Standing) (parts after : Parts) (graph : IsGraph parts) (fits : FitsWith flow standing parts) (keeps : KeepsObjects parts after) where
+module _ (flow : Flow) (standing : Standing) (parts after : Parts) (graph : IsGraph parts) (fits : FitsWith flow standing parts) where
   named : after.variables ≡ parts.variables → (variable : ℕ) → is_some (storage_of after.variables variable) ≡ (is_fixed flow variable || list_any (nat_eq variable) standing.variables)
   named same variable = ap (λ (vs : List Named). is_some (storage_of vs variable)) same ∙ fits.variables variable
 
@@ -99,7 +98,6 @@ module _ (flow : Flow) (standing : Standing) (parts after : Parts) (graph : IsGr
     variables = named variables;
     registers = emptied_fit parts after graph gone standing.registers fits.registers values registers;
     ports = ports ∙ fits.ports;
-    regions = keeps.regions fits.regions;
   }
 
   filled_fits : (gone : List ℕ) (into size key : ℕ) (value : Value) → after.variables ≡ parts.variables → after.ports ≡ parts.ports →
@@ -111,7 +109,6 @@ module _ (flow : Flow) (standing : Standing) (parts after : Parts) (graph : IsGr
     variables = named variables;
     registers = filled_fit parts after graph gone standing.registers fits.registers into size key value values registers held is size_is;
     ports = ports ∙ fits.ports;
-    regions = keeps.regions fits.regions;
   }
 
   pub write_fits : (gone : List ℕ) → WriteTail parts gone after → FitsWith flow (record { variables = standing.variables; registers = emptied_widths gone standing.registers }) after
@@ -159,7 +156,6 @@ module _ (flow : Flow) (standing : Standing) (parts after : Parts) (graph : IsGr
     variables = named variables;
     registers = mapped_fit parts after graph gone standing.registers fits.registers key_of sizes registers;
     ports = ports ∙ ap (map key_of) fits.ports;
-    regions = keeps.regions fits.regions;
   }
 
   pub equal_fits : (gone : List ℕ) → EqualTail parts gone after → FitsWith flow (record { variables = standing.variables; registers = emptied_widths gone standing.registers }) after
@@ -186,7 +182,6 @@ module _ (flow : Flow) (standing : Standing) (parts after : Parts) (graph : IsGr
     variables = λ variable. by_test variable (is_among which variable) refl ∙ ap (λ (b : Bool). is_fixed flow variable || b) (sym (any_with which standing.variables variable));
     registers = emptied_fit parts after graph [] standing.registers fits.registers (kept_values tail.values) (held_as_before tail.registers tail.values);
     ports = tail.ports ∙ fits.ports;
-    regions = keeps.regions fits.regions;
   }
     where
       by_test : (variable : ℕ) (b : Bool) → is_among which variable ≡ b → is_some (storage_of after.variables variable) ≡ (is_fixed flow variable || (list_any (nat_eq variable) which || list_any (nat_eq variable) standing.variables))
@@ -206,7 +201,6 @@ module _ (flow : Flow) (standing : Standing) (parts after : Parts) (graph : IsGr
         ∙ ap (λ (b : Bool). is_fixed flow variable || b) (sym (any_left which standing.variables variable));
     registers = emptied_fit parts after graph [] standing.registers fits.registers (kept_values tail.values) (held_as_before tail.registers tail.values);
     ports = tail.ports ∙ fits.ports;
-    regions = keeps.regions fits.regions;
   }
     where
       stood : (numbers : List ℕ) (variable : ℕ) → list_all (λ variable. list_any (nat_eq variable) standing.variables) numbers ≡ true → is_among numbers variable ≡ true → list_any (nat_eq variable) standing.variables ≡ true

@@ -22,7 +22,7 @@ use Rattle.changes.proofs.Reached.{none_in, reach_graph}
 use Rattle.flow.specs.declared.flow_graph.Flow.{Flow}
 use Rattle.flow.specs.declared.instruction.Instr.{Instr}
 use Rattle.flow.specs.declared.instruction.Instr.TheVariants as instr
-use Rattle.heap_steps.specs.Closing.{closed_by, has_live_heap}
+use Rattle.heap_steps.specs.Closing.{none_is_empty, closed_by, has_live_heap}
 use Rattle.heap_steps.specs.Leaving.{without_variable, with_dead, with_dead_at, without_one}
 use Rattle.heap_steps.specs.Leaving as leaving
 use Rattle.heap_steps.specs.Looking.{loses_some, looked_by, looked}
@@ -43,6 +43,7 @@ use Rattle.register_steps.specs.Lines.{number_line, input_line}
 use Rattle.register_steps.specs.Steps.{line_of_address, line_of_move, line_of_shift, line_of_shift_by, line_of_compute, line_of_convert}
 use Rattle.register_steps.specs.declared.line.Gain.{Gain}
 use Rattle.register_steps.specs.declared.line.Gain.TheVariants.{Nothing, Held, Fresh, Truth}
+use Rattle.transfer.specs.Ending.{ended_by}
 use Rattle.transfer.specs.Posts.{edge_post}
 use Rattle.transfer.proofs.KeptObjects.{KeepsObjects, keeps_same, keeps_then, keeps_object, keeps_more, keeps_merged}
 
@@ -256,6 +257,10 @@ close_keep : (parts : Parts) (b : Bool) → KeepIn parts (closed_by parts b).gra
 close_keep parts true = keep_none parts
 close_keep parts false = keep_one parts parts (keeps_same parts parts refl)
 
+end_keep : (parts : Parts) (b : Bool) → KeepIn parts (ended_by parts b).graphs
+end_keep parts true = close_keep parts (has_live_heap parts)
+end_keep parts false = keep_one parts parts (keeps_same parts parts refl)
+
 pub edge_keeps : (flow : Flow) (kind : Instr) (parts after : Parts) → Contains (edge_post flow kind parts).graphs after → KeepsObjects parts after
 edge_keeps flow (instr.Number into number size) parts = line_keep parts [] into (number_line number size).gain
 edge_keeps flow (instr.Address into variable) parts = line_keep parts [] into (line_of_address parts variable).gain
@@ -280,4 +285,4 @@ edge_keeps flow (instr.Finish registers) parts = looked_keep parts (without_regi
 edge_keeps flow (instr.Input into size signed test) parts = line_keep parts [] into (input_line size test).gain
 edge_keeps flow (instr.Call function arguments into) parts = keep_none parts
 edge_keeps flow (instr.Return from) parts = keep_none parts
-edge_keeps flow instr.Close parts = close_keep parts (has_live_heap parts)
+edge_keeps flow instr.Close parts = end_keep parts (none_is_empty parts)

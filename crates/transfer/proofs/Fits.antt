@@ -43,11 +43,11 @@ use Rattle.register_steps.specs.Gaining.{GainTail, size_held}
 use Rattle.register_steps.specs.Lines.{size_given}
 use Rattle.edge_steps.specs.Laws.{sizes_at}
 use Rattle.transfer.specs.Fitting.{FitAt, FitsWith, FitWith, MayFollow}
-use Rattle.transfer.specs.Along.{is_full}
+use Rattle.transfer.specs.Along.{is_full_along}
 use Rattle.transfer.specs.Means.{stopped}
 use Rattle.transfer.specs.Posts.{edge_post}
 use Rattle.transfer.proofs.Behind.{write_fits, gain_fits, read_fits, allocate_fits, refuse_fits, equal_fits, release_fits, enter_fits, leave_fits, finish_fits, close_fits, looked_is}
-use Rattle.transfer.proofs.EdgeObjects.{edge_keeps}
+use Rattle.transfer.proofs.EndMeans.{end_is}
 use Rattle.transfer.proofs.Sound.{at_point}
 
 -- what each graph of an answer leaves
@@ -102,7 +102,7 @@ module _ (flow : Flow) (point : ℕ) (instr : Instr) (parts : Parts) (may : MayF
   FitIn result = IfOk result (λ post. FitWith flow (stands_after flow instr (stands_at flow point)) post.graphs)
 
   fits : FitsWith flow standing parts
-  fits = record { variables = may.fits.variables; registers = may.fits.registers; ports = may.fits.ports; regions = may.fits.regions }
+  fits = record { variables = may.fits.variables; registers = may.fits.registers; ports = may.fits.ports }
 
   -- of each instruction
   fit_step : (kind : Instr) (Tail : Parts → Type 0) (behind : Standing) → instr ≡ kind → stands_after flow kind standing ≡ behind → (result : Result Post Stop) → IfOk result (λ post. IsPost (edge_post flow kind parts) post) →
@@ -128,7 +128,7 @@ module _ (flow : Flow) (point : ℕ) (instr : Instr) (parts : Parts) (may : MayF
   gain_fit Steps Faults kind gone into size is stands answer result same posted means =
       fit_step kind (GainTail parts gone into size) (filled_standing gone into size standing) is stands result (stopped_ok (λ post. IsPost (edge_post flow kind parts) post) answer result same posted)
       (plain_tails Steps Faults (GainTail parts gone into size) result (stopped_ok (λ post. StepMeans parts Steps Faults (GainTail parts gone into size) post) answer result same means))
-      (λ after among tail. gain_fits flow standing parts after graph fits (edge_keeps flow kind parts after among) gone into size tail)
+      (λ after among tail. gain_fits flow standing parts after graph fits gone into size tail)
 
   pub read_fit : (Steps : graphs.State → graphs.State → Type 0) (Faults : ℕ → graphs.State → Type 0) (kind : Instr) (gone : List ℕ) (into size : ℕ) → instr ≡ kind → stands_after flow kind standing ≡ filled_standing gone into size standing →
       (answer : Result Post NoMemory) (result : Result Post Stop) → result ≡ stopped answer → IfOk answer (λ post. IsPost (edge_post flow kind parts) post) →
@@ -136,14 +136,14 @@ module _ (flow : Flow) (point : ℕ) (instr : Instr) (parts : Parts) (may : MayF
   read_fit Steps Faults kind gone into size is stands answer result same posted means =
       fit_step kind (ReadTail parts gone into size) (filled_standing gone into size standing) is stands result (stopped_ok (λ post. IsPost (edge_post flow kind parts) post) answer result same posted)
       (plain_tails Steps Faults (ReadTail parts gone into size) result (stopped_ok (λ post. StepMeans parts Steps Faults (ReadTail parts gone into size) post) answer result same means))
-      (λ after among tail. read_fits flow standing parts after graph fits (edge_keeps flow kind parts after among) gone into size tail)
+      (λ after among tail. read_fits flow standing parts after graph fits gone into size tail)
 
   -- a write, a fill, a copy
   pub write_fit : (Steps : graphs.State → graphs.State → Type 0) (Faults : ℕ → graphs.State → Type 0) (kind : Instr) (gone : List ℕ) → instr ≡ kind → stands_after flow kind standing ≡ emptied_standing gone standing →
       (result : Result Post Stop) → IfOk result (λ post. IsPost (edge_post flow kind parts) post) → IfOk result (λ post. StepMeans parts Steps Faults (WriteTail parts gone) post) → FitIn result
   write_fit Steps Faults kind gone is stands result posted means =
       fit_step kind (WriteTail parts gone) (emptied_standing gone standing) is stands result posted (plain_tails Steps Faults (WriteTail parts gone) result means)
-      (λ after among tail. write_fits flow standing parts after graph fits (edge_keeps flow kind parts after among) gone tail)
+      (λ after among tail. write_fits flow standing parts after graph fits gone tail)
 
   pub stopped_write_fit : (Steps : graphs.State → graphs.State → Type 0) (Faults : ℕ → graphs.State → Type 0) (kind : Instr) (gone : List ℕ) → instr ≡ kind → stands_after flow kind standing ≡ emptied_standing gone standing →
       (answer : Result Post NoMemory) (result : Result Post Stop) → result ≡ stopped answer → IfOk answer (λ post. IsPost (edge_post flow kind parts) post) →
@@ -154,30 +154,30 @@ module _ (flow : Flow) (point : ℕ) (instr : Instr) (parts : Parts) (may : MayF
       (result : Result Post Stop) → IfOk result (λ post. IsPost (edge_post flow kind parts) post) → IfOk result (λ post. StepMeans parts Steps Faults (EqualTail parts gone) post) → FitIn result
   equal_fit Steps Faults kind gone is stands result posted means =
       fit_step kind (EqualTail parts gone) (emptied_standing gone standing) is stands result posted (plain_tails Steps Faults (EqualTail parts gone) result means)
-      (λ after among tail. equal_fits flow standing parts after graph fits (edge_keeps flow kind parts after among) gone tail)
+      (λ after among tail. equal_fits flow standing parts after graph fits gone tail)
 
   pub release_fit : (Steps : graphs.State → graphs.State → Type 0) (Faults : ℕ → graphs.State → Type 0) (Room : List Block → Type 0) (kind : Instr) (gone : List ℕ) → instr ≡ kind → stands_after flow kind standing ≡ emptied_standing gone standing →
       (result : Result Post Stop) → IfOk result (λ post. IsPost (edge_post flow kind parts) post) → IfOk result (λ post. StepMeansAlike parts Steps Faults (ReleaseTail parts gone) Room post) → FitIn result
   release_fit Steps Faults Room kind gone is stands result posted means =
       fit_step kind (ReleaseTail parts gone) (emptied_standing gone standing) is stands result posted (alike_tails Steps Faults Room (ReleaseTail parts gone) result means)
-      (λ after among tail. release_fits flow standing parts after graph fits (edge_keeps flow kind parts after among) gone tail)
+      (λ after among tail. release_fits flow standing parts after graph fits gone tail)
 
   pub allocate_fit : (Steps : graphs.State → graphs.State → Type 0) (Faults : ℕ → graphs.State → Type 0) (Room : List Block → Type 0) (into bytes : ℕ) (zeroed : Bool) → instr ≡ Allocate into bytes zeroed →
       (result : Result Post Stop) → IfOk result (λ post. IsPost (edge_post flow (Allocate into bytes zeroed) parts) post) → IfOk result (λ post. StepMeansAlike parts Steps Faults (AllocateTail parts bytes zeroed into) Room post) → FitIn result
   allocate_fit Steps Faults Room into bytes zeroed is result posted means =
       fit_step (Allocate into bytes zeroed) (AllocateTail parts bytes zeroed into) (filled_standing [] into 8 standing) is refl result posted (alike_tails Steps Faults Room (AllocateTail parts bytes zeroed into) result means)
-      (λ after among tail. allocate_fits flow standing parts after graph fits (edge_keeps flow (Allocate into bytes zeroed) parts after among) into bytes zeroed tail)
+      (λ after among tail. allocate_fits flow standing parts after graph fits into bytes zeroed tail)
 
   pub refuse_fit : (into : ℕ) → instr ≡ AllocateNone into → (result : Result Post Stop) → IfOk result (λ post. IsPost (edge_post flow (AllocateNone into) parts) post) → FitIn result
   refuse_fit into is result posted =
       fit_step (AllocateNone into) (λ after. Unit {0}) (filled_standing [] into 8 standing) is refl result posted (mapped_ok (λ post. IsPost (edge_post flow (AllocateNone into) parts) post) (Tails (λ after. Unit {0})) result (λ post is after among. tt) posted)
-      (λ after among tail. refuse_fits flow standing parts after graph fits (edge_keeps flow (AllocateNone into) parts after among) into (only_one _ after among))
+      (λ after among tail. refuse_fits flow standing parts after graph fits into (only_one _ after among))
 
   pub enter_fit : (Steps : graphs.State → graphs.State → Type 0) (Faults : ℕ → graphs.State → Type 0) (Room : List Block → Type 0) (variables given : List ℕ) → instr ≡ Enter variables → given ≡ variables → (result : Result Post Stop) →
       IfOk result (λ post. IsPost (edge_post flow (Enter given) parts) post) → IfOk result (λ post. StepMeansAlike parts Steps Faults (EnterTail parts given (map (size_in flow) given)) Room post) → FitIn result
   enter_fit Steps Faults Room variables given is same result posted means =
       fit_step (Enter given) (EnterTail parts given (map (size_in flow) given)) _ (is ∙ ap Enter (sym same)) refl result posted (alike_tails Steps Faults Room (EnterTail parts given (map (size_in flow) given)) result means)
-      (λ after among tail. enter_fits flow standing parts after graph fits (edge_keeps flow (Enter given) parts after among) given tail)
+      (λ after among tail. enter_fits flow standing parts after graph fits given tail)
 
   -- the variables that stand are no static ones
   locals : IsFlow flow → list_all (is_local flow) standing.variables ≡ true
@@ -189,7 +189,7 @@ module _ (flow : Flow) (point : ℕ) (instr : Instr) (parts : Parts) (may : MayF
       IfOk result (λ post. IsPost (edge_post flow (Leave given) parts) post) → IfOk result (λ post. StepMeansAlike parts Steps Faults (LeaveTail parts given) Room post) → FitIn result
   leave_fit Steps Faults Room valid variables given is same result posted means =
       fit_step (Leave given) (LeaveTail parts given) _ whole refl result posted (alike_tails Steps Faults Room (LeaveTail parts given) result means)
-      (λ after among tail. leave_fits flow standing parts after graph fits (edge_keeps flow (Leave given) parts after among) given (locals valid)
+      (λ after among tail. leave_fits flow standing parts after graph fits given (locals valid)
       (and_right (flows.are_distinct given) (list_all (λ variable. list_any (nat_eq variable) standing.variables) given) (subst (λ (i : Instr). has_scope flow standing i ≡ true) whole may.scope)) tail)
     where
       whole : instr ≡ Leave given
@@ -198,13 +198,12 @@ module _ (flow : Flow) (point : ℕ) (instr : Instr) (parts : Parts) (may : MayF
   pub finish_fit : (registers : List ℕ) → instr ≡ Finish registers → (result : Result Post Stop) → IfOk result (λ post. IsPost (edge_post flow (Finish registers) parts) post) → FitIn result
   finish_fit registers is result posted =
       fit_step (Finish registers) (λ after. Unit {0}) (emptied_standing registers standing) is (ap (λ (gone : List ℕ). emptied_standing gone standing) (finish_empties registers)) result posted (mapped_ok (λ post. IsPost (edge_post flow (Finish registers) parts) post) (Tails (λ after. Unit {0})) result (λ post is after among. tt) posted)
-      (λ after among tail. finish_fits flow standing parts after graph fits (edge_keeps flow (Finish registers) parts after among) registers (looked_is (without_registers registers parts) after among))
+      (λ after among tail. finish_fits flow standing parts after graph fits registers (looked_is (without_registers registers parts) after among))
 
-  pub close_fit : (Steps : graphs.State → graphs.State → Type 0) (Faults : ℕ → graphs.State → Type 0) → instr ≡ Close → (result : Result Post Stop) → IfOk result (λ post. IsPost (edge_post flow Close parts) post) →
-      IfOk result (λ post. StepMeans parts Steps Faults (λ after. after ≡ parts) post) → FitIn result
-  close_fit Steps Faults is result posted means =
-      fit_step Close (λ after. after ≡ parts) (emptied_standing [] standing) is refl result posted (plain_tails Steps Faults (λ after. after ≡ parts) result means)
-      (λ after among tail. close_fits flow standing parts after graph fits (edge_keeps flow Close parts after among) tail)
+  pub close_fit : instr ≡ Close → (result : Result Post Stop) → IfOk result (λ post. IsPost (edge_post flow Close parts) post) → FitIn result
+  close_fit is result posted =
+      fit_step Close (λ after. Unit {0}) (emptied_standing [] standing) is refl result posted (mapped_ok (λ post. IsPost (edge_post flow Close parts) post) (Tails (λ after. Unit {0})) result (λ post is after among. tt) posted)
+      (λ after among tail. close_fits flow standing parts after graph fits (end_is parts after among))
 
   -- a move, by the size that its register has
   pub move_stands : (into from : ℕ) → instr ≡ Move into from → size_held parts from ≡ sizes_at flow point from → stands_after flow (Move into from) standing ≡ filled_standing [] into (size_held parts from) standing
@@ -240,7 +239,7 @@ module _ (flow : Flow) (number : ℕ) (edge : FlowEdge) (stands : slice_get flow
   fit_there valid graphs fit = record {
     each = λ place parts there.
         let fits = subst (λ (s : Standing). FitsWith flow s parts) (leads_to valid) (fit.each place parts there) in
-        record { variables = fits.variables; registers = fits.registers; ports = fits.ports; regions = fits.regions };
+        record { variables = fits.variables; registers = fits.registers; ports = fits.ports };
   }
 
   pub fit_at : IsFlow flow → (result : Result Post Stop) → IfOk result (λ post. FitWith flow (stands_after flow edge.instr (stands_at flow edge.from)) post.graphs) →
@@ -248,10 +247,10 @@ module _ (flow : Flow) (number : ℕ) (edge : FlowEdge) (stands : slice_get flow
   fit_at valid (Ok post) fit = at_edge (λ e. FitAt flow e.to post.graphs) (fit_there valid post.graphs fit)
   fit_at valid (Err error) fit = tt
 
-  pub large_at : (parts : Parts) (result : Result Post Stop) → IfErr result (λ stop. stop ≡ stops.Large → is_full edge.instr parts ≡ true) →
-      IfErr result (λ stop. stop ≡ stops.Large → IfSome (slice_get flow.edges number) (λ edge. is_full edge.instr parts ≡ true))
+  pub large_at : (parts : Parts) (result : Result Post Stop) → IfErr result (λ stop. stop ≡ stops.Large → is_full_along edge.instr parts ≡ true) →
+      IfErr result (λ stop. stop ≡ stops.Large → IfSome (slice_get flow.edges number) (λ edge. is_full_along edge.instr parts ≡ true))
   large_at parts (Ok post) full = tt
-  large_at parts (Err error) full = λ large. at_edge (λ e. is_full e.instr parts ≡ true) (full large)
+  large_at parts (Err error) full = λ large. at_edge (λ e. is_full_along e.instr parts ≡ true) (full large)
 
 pub edge_there : (edges slice : List FlowEdge) (number : ℕ) (edge : FlowEdge) → slice ≡ edges → number < length slice → edge ≡ get_or slice number edge → slice_get edges number ≡ Some edge
 edge_there edges slice number edge same within is =

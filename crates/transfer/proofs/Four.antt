@@ -20,7 +20,7 @@ use Rattle.changes.specs.Reaching.{reach_of}
 use Rattle.flow.specs.declared.flow_graph.Flow.{Flow}
 use Rattle.flow.specs.declared.instruction.Instr.{Instr}
 use Rattle.flow.specs.declared.instruction.Instr.TheVariants as instr
-use Rattle.heap_steps.specs.Closing.{closed_by, has_live_heap}
+use Rattle.heap_steps.specs.Closing.{none_is_empty, closed_by, close_post, has_live_heap}
 use Rattle.heap_steps.specs.Leaving.{left}
 use Rattle.heap_steps.specs.Looking.{looked_by, looked, loses_some}
 use Rattle.heap_steps.specs.Unreached.{may_lead_anywhere}
@@ -34,6 +34,7 @@ use Rattle.block_steps.specs.Releasing.{object_released, value_released, release
 use Rattle.register_steps.specs.declared.line.Line.{Line}
 use Rattle.register_steps.specs.Lines.{kept, losing, truth, shifted, shifted_somewhere, shifted_by, is_test, of_constants, of_others, size_given, computed_line, converted_line, input_line, address_line}
 use Rattle.register_steps.specs.Steps.{entry_held, on_held as on_entry}
+use Rattle.transfer.specs.Ending.{ended_by, end_post}
 use Rattle.transfer.specs.Posts.{edge_post}
 
 -- loss 4 stands beside a kind
@@ -172,12 +173,19 @@ looked_not parts = by_tests (loses_some parts) (may_lead_anywhere parts)
     by_tests true false loss = none-some 4 loss
     by_tests true true loss = other_loss 3 refl loss
 
-close_not : (parts : Parts) → (closed_by parts (has_live_heap parts)).loss ≡ Some 4 → ⊥
+pub close_not : (parts : Parts) → (close_post parts).loss ≡ Some 4 → ⊥
 close_not parts = by_test (has_live_heap parts)
   where
     by_test : (b : Bool) → (closed_by parts b).loss ≡ Some 4 → ⊥
     by_test true loss = none-some 4 loss
     by_test false loss = none-some 4 loss
+
+end_not : (parts : Parts) → (end_post parts).loss ≡ Some 4 → ⊥
+end_not parts = by_test (none_is_empty parts)
+  where
+    by_test : (b : Bool) → (ended_by parts b).loss ≡ Some 4 → ⊥
+    by_test true loss = close_not parts loss
+    by_test false loss = other_loss 3 refl loss
 
 beside_not : (parts : Parts) → loss_beside parts ≡ Some 4 → ⊥
 beside_not parts = by_test (may_lead_anywhere parts)
@@ -300,7 +308,7 @@ never_four flow (instr.Finish registers) parts plain alone loss = looked_not (wi
 never_four flow (instr.Input into size signed test) parts plain alone loss = input_not size test loss
 never_four flow (instr.Call function arguments into) parts plain alone loss = none-some 4 loss
 never_four flow (instr.Return from) parts plain alone loss = none-some 4 loss
-never_four flow instr.Close parts plain alone loss = close_not parts loss
+never_four flow instr.Close parts plain alone loss = end_not parts loss
 
 -- where loss 4 is named of one of these, a kind is listed
 pub access_kinds : (flow : Flow) (kind : Instr) (parts : Parts) → accesses kind ≡ true → HasKinds (edge_post flow kind parts)

@@ -3,6 +3,7 @@ pub mod Ready
 pub mod Asked
 pub mod Listed
 pub mod Meaning
+pub mod EndMeans
 pub mod Sound
 pub mod Widths
 pub mod HeldSizes
@@ -10,6 +11,9 @@ pub mod KeptObjects
 pub mod EdgeObjects
 pub mod Behind
 pub mod Fits
+pub mod KindsTogether
+pub mod PostsTogether
+pub mod AlongMeans
 pub mod StaticMade
 pub mod StaticBack
 pub mod StaticLoop

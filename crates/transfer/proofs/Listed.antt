@@ -1,4 +1,4 @@
--- Each kind that a step lists is met, also through any word, where the graph is one of regions and may have one object more.
+-- Each kind that a step lists is met, also through any word, where there is a place for it, as in a graph of regions that may have one object more.
 use Rattle.std.proofs.Common.{◌≡◌, ℕ, ◌+◌, ◌^◌, ◌<◌, Bool, true, false, ◌||◌, ◌&&◌, List, [], ◌∷◌, nat_le, Option, None, Some, refl}
 use Rattle.std.specs.Prelude.{Result, Ok, Err, IfOk, Contains, if◌then◌else◌}
 use Rattle.std.specs.List.{list_all, list_any}
@@ -19,13 +19,16 @@ use Rattle.reinterpret.specs.declared.comparison.Comparison.TheVariants as known
 use Rattle.reinterpret.specs.Comparing.{compared}
 use Rattle.reinterpret.specs.Testing.{tested, equal_post}
 use Rattle.heap_steps.specs.Regions.{AreRegions}
+use Rattle.flow.specs.declared.instruction.Instr.{Instr}
+use Rattle.flow.specs.declared.instruction.Instr.TheVariants.{Number, Address, Move, Read, Write, Shift, ShiftBy, Compute, Convert, IfSame, IfDifferent, Allocate, AllocateNone, Release, Fill, Copy, Enter, Leave, Finish, Input, Call, Return, Close}
 use Rattle.range_steps.specs.AnyCopies.{HasPlaceToCopy, MeetsCopied}
 use Rattle.range_steps.specs.Copies.{FaultsCopying}
 use Rattle.block_steps.specs.Releasing.{FaultsReleasing, MeetsReleased}
+use Rattle.transfer.specs.Means.{HasPlaceFor}
 
--- each kind that is listed is met, where the graph may have one object more
-pub record MeetsAll (parts : Parts) (Faults : ℕ → State → Type 0) (post : Post) : Type 0 where
-  pub met : nodes parts + 1 < 2 ^ 30 → (kind : ℕ) → Contains post.kinds kind → SomeFaults parts (Faults kind)
+-- each kind that is listed is met, where there is a place for an access through any word
+pub record MeetsAll (parts : Parts) (Faults : ℕ → State → Type 0) (Place : Type 0) (post : Post) : Type 0 where
+  pub met : Place → (kind : ℕ) → Contains post.kinds kind → SomeFaults parts (Faults kind)
 
 -- where all pass one test, and some another, some pass both
 both_pass : {X : Type 0} (one other both : X → Bool) (items : List X) → ((item : X) → one item ≡ true → other item ≡ true → both item ≡ true) → list_all one items ≡ true → list_any other items ≡ true → list_any both items ≡ true
@@ -65,16 +68,43 @@ module _ (parts : Parts) (regions : AreRegions parts.objects) where
         regions some;
   }
 
-  pub of_listed : {E : Type 0} (Faults : ℕ → State → Type 0) (answer : Result Post E) → IfOk answer (λ post. MeetsListed parts Faults post) → IfOk answer (λ post. MeetsAll parts Faults post)
-  of_listed Faults (Ok post) listed = record { met = λ room kind. listed.met (place_for_one room) kind }
-  of_listed Faults (Err error) listed = tt
+  -- each instruction has its place in a graph of regions that may have one object more
+  pub place_for : (kind : Instr) → nodes parts + 1 < 2 ^ 30 → HasPlaceFor kind parts
+  place_for (Number into number size) room = place_for_one room
+  place_for (Address into variable) room = place_for_one room
+  place_for (Move into from) room = place_for_one room
+  place_for (Read into at size pointer) room = place_for_one room
+  place_for (Write at from size) room = place_for_one room
+  place_for (Shift into at by) room = place_for_one room
+  place_for (ShiftBy into at by scale) room = place_for_one room
+  place_for (Compute into op one other size signed) room = place_for_one room
+  place_for (Convert into from size signed) room = place_for_one room
+  place_for (IfSame one other) room = place_for_one room
+  place_for (IfDifferent one other) room = place_for_one room
+  place_for (Allocate into bytes zeroed) room = place_for_one room
+  place_for (AllocateNone into) room = place_for_one room
+  place_for (Release at) room = room
+  place_for (Fill at from length) room = place_for_one room
+  place_for (Copy to from length disjoint) room = place_to_copy length room
+  place_for (Enter variables) room = place_for_one room
+  place_for (Leave variables) room = place_for_one room
+  place_for (Finish registers) room = place_for_one room
+  place_for (Input into size signed truth) room = place_for_one room
+  place_for (Call function arguments into) room = place_for_one room
+  place_for (Return from) room = place_for_one room
+  place_for Close room = place_for_one room
 
-  pub of_copied : {E : Type 0} (target from length : ℕ) (disjoint : Bool) (answer : Result Post E) → IfOk answer (λ post. MeetsCopied parts target from length disjoint post) →
-      IfOk answer (λ post. MeetsAll parts (λ kind. FaultsCopying target from length disjoint kind) post)
-  of_copied target from length disjoint (Ok post) listed = record { met = λ room kind. listed.met (place_to_copy length room) kind }
-  of_copied target from length disjoint (Err error) listed = tt
+pub of_listed : {E : Type 0} (parts : Parts) (Faults : ℕ → State → Type 0) (answer : Result Post E) → IfOk answer (λ post. MeetsListed parts Faults post) → IfOk answer (λ post. MeetsAll parts Faults (HasPlaceForOne parts) post)
+of_listed parts Faults (Ok post) listed = record { met = listed.met }
+of_listed parts Faults (Err error) listed = tt
 
-pub of_released : {E : Type 0} (parts : Parts) (at : ℕ) (answer : Result Post E) → IfOk answer (λ post. MeetsReleased parts at post) → IfOk answer (λ post. MeetsAll parts (λ kind. FaultsReleasing at kind) post)
+pub of_copied : {E : Type 0} (parts : Parts) (target from length : ℕ) (disjoint : Bool) (answer : Result Post E) → IfOk answer (λ post. MeetsCopied parts target from length disjoint post) →
+    IfOk answer (λ post. MeetsAll parts (λ kind. FaultsCopying target from length disjoint kind) (HasPlaceToCopy parts length) post)
+of_copied parts target from length disjoint (Ok post) listed = record { met = listed.met }
+of_copied parts target from length disjoint (Err error) listed = tt
+
+pub of_released : {E : Type 0} (parts : Parts) (at : ℕ) (answer : Result Post E) → IfOk answer (λ post. MeetsReleased parts at post) →
+    IfOk answer (λ post. MeetsAll parts (λ kind. FaultsReleasing at kind) (nodes parts + 1 < 2 ^ 30) post)
 of_released parts at (Ok post) listed = record { met = listed.met }
 of_released parts at (Err error) listed = tt
 

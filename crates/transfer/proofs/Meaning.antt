@@ -33,7 +33,7 @@ use Rattle.register_steps.specs.States.{Shifts, ShiftsBy, Converts, NoFault}
 use Rattle.register_steps.specs.Steps.{shift_post, shift_by_post, convert_post}
 use Rattle.edge_steps.specs.EdgeSteps.{EdgeSteps, EdgeFaults}
 use Rattle.edge_steps.specs.Laws.{sizes_at}
-use Rattle.transfer.specs.Means.{HasRoomBack, StandsForAll, EdgeMeans, stopped}
+use Rattle.transfer.specs.Means.{HasRoomBack, HasPlaceFor, StandsForAll, InstrMeans, stopped}
 use Rattle.transfer.specs.Posts.{edge_post}
 use Rattle.transfer.proofs.Four.{compares, accesses, never_four, four_kinds}
 use Rattle.transfer.proofs.Listed.{MeetsAll}
@@ -47,12 +47,12 @@ module _ (parts : Parts) (Steps : State → State → Type 0) (Faults : ℕ → 
   alike_regions Tail (Ok post) means = in_any_memory post (λ after next none among is stands. means.exact after next none among is stands (record {}))
   alike_regions Tail (Err error) means = tt
 
-  plain_regions : (Tail : Parts → Type 0) (post : Post) → StepMeans parts Steps Faults Tail post → IsExactOfRegions parts Steps post
+  pub plain_regions : (Tail : Parts → Type 0) (post : Post) → StepMeans parts Steps Faults Tail post → IsExactOfRegions parts Steps post
   plain_regions Tail post means = in_any_memory post (λ after next none among is stands. follows_alike parts Steps next is (means.exact after next none among is stands))
 
-  alike_all : (Tail : Parts → Type 0) (Room : List Block → Type 0) (post : Post) → ((post.loss ≡ Some 4 → post.kinds ≡ []) → post.loss ≢ Some 4) → MeetsAll parts Faults post → StepMeansAlike parts Steps Faults Tail Room post →
-      IsExactOfRegions parts Steps post → StandsForAll parts Steps Faults Room post
-  alike_all Tail Room post other all means regions = record {
+  pub alike_all : (Tail : Parts → Type 0) (Room : List Block → Type 0) (Place : Type 0) (post : Post) → ((post.loss ≡ Some 4 → post.kinds ≡ []) → post.loss ≢ Some 4) → MeetsAll parts Faults Place post → StepMeansAlike parts Steps Faults Tail Room post →
+      IsExactOfRegions parts Steps post → StandsForAll parts Steps Faults Room Place post
+  alike_all Tail Room Place post other all means regions = record {
     sound = λ state next is stands steps excuse. means.sound state next is stands steps (other excuse);
     exact = means.exact;
     exact_of_regions = regions;
@@ -71,29 +71,32 @@ module _ (flow : Flow) (point : ℕ) (instr kind : Instr) (parts : Parts) (is : 
   abbrev Faults : ℕ → State → Type 0
   Faults = EdgeFaults kind
 
-  back : (post : Post) → StandsForAll parts Steps Faults (HasRoomBack kind) post → EdgeMeans flow point instr parts post
-  back post means = subst (λ (i : Instr). EdgeMeans flow point i parts post) (sym is) means
+  abbrev Place : Type 0
+  Place = HasPlaceFor kind parts
+
+  back : (post : Post) → StandsForAll parts Steps Faults (HasRoomBack kind) Place post → InstrMeans flow point instr parts post
+  back post means = subst (λ (i : Instr). InstrMeans flow point i parts post) (sym is) means
 
   not_four : (post : Post) → compares kind ≡ false → IsPost (edge_post flow kind parts) post → (post.loss ≡ Some 4 → post.kinds ≡ []) → post.loss ≢ Some 4
   not_four post plain posted excuse loss = four_kinds flow kind parts plain (sym posted.loss ∙ loss) (sym posted.kinds ∙ excuse loss)
 
   -- one that may lead through any word
   pub alike_access : (Tail : Parts → Type 0) (result : Result Post Stop) → compares kind ≡ false → IfOk result (λ post. IsPost (edge_post flow kind parts) post) →
-      IfOk result (λ post. StepMeansAlike parts Steps Faults Tail (HasRoomBack kind) post) → IfOk result (λ post. IsExactOfRegions parts Steps post) → IfOk result (λ post. MeetsAll parts Faults post) →
-      IfOk result (λ post. EdgeMeans flow point instr parts post)
-  alike_access Tail (Ok post) plain posted means regions all = back post (alike_all parts Steps Faults Tail (HasRoomBack kind) post (not_four post plain posted) all means regions)
+      IfOk result (λ post. StepMeansAlike parts Steps Faults Tail (HasRoomBack kind) post) → IfOk result (λ post. IsExactOfRegions parts Steps post) → IfOk result (λ post. MeetsAll parts Faults Place post) →
+      IfOk result (λ post. InstrMeans flow point instr parts post)
+  alike_access Tail (Ok post) plain posted means regions all = back post (alike_all parts Steps Faults Tail (HasRoomBack kind) Place post (not_four post plain posted) all means regions)
   alike_access Tail (Err error) plain posted means regions all = tt
 
   pub plain_access : (Tail : Parts → Type 0) (result : Result Post Stop) → compares kind ≡ false → IfOk result (λ post. IsPost (edge_post flow kind parts) post) →
-      IfOk result (λ post. StepMeans parts Steps Faults Tail post) → IfOk result (λ post. MeetsAll parts Faults post) → IfOk result (λ post. EdgeMeans flow point instr parts post)
+      IfOk result (λ post. StepMeans parts Steps Faults Tail post) → IfOk result (λ post. MeetsAll parts Faults Place post) → IfOk result (λ post. InstrMeans flow point instr parts post)
   plain_access Tail (Ok post) plain posted means all =
-      back post (alike_all parts Steps Faults Tail (HasRoomBack kind) post (not_four post plain posted) all (means_alike parts Steps Faults Tail (HasRoomBack kind) post means) (plain_regions parts Steps Faults Tail post means))
+      back post (alike_all parts Steps Faults Tail (HasRoomBack kind) Place post (not_four post plain posted) all (means_alike parts Steps Faults Tail (HasRoomBack kind) post means) (plain_regions parts Steps Faults Tail post means))
   plain_access Tail (Err error) plain posted means all = tt
 
   pub stopped_access : (Tail : Parts → Type 0) (answer : Result Post NoMemory) (result : Result Post Stop) → compares kind ≡ false → result ≡ stopped answer → IfOk answer (λ post. IsPost (edge_post flow kind parts) post) →
-      IfOk answer (λ post. StepMeans parts Steps Faults Tail post) → IfOk answer (λ post. MeetsAll parts Faults post) → IfOk result (λ post. EdgeMeans flow point instr parts post)
+      IfOk answer (λ post. StepMeans parts Steps Faults Tail post) → IfOk answer (λ post. MeetsAll parts Faults Place post) → IfOk result (λ post. InstrMeans flow point instr parts post)
   stopped_access Tail answer result plain same posted means all =
-      plain_access Tail result plain (by_answer (λ post. IsPost (edge_post flow kind parts) post) posted) (by_answer (λ post. StepMeans parts Steps Faults Tail post) means) (by_answer (λ post. MeetsAll parts Faults post) all)
+      plain_access Tail result plain (by_answer (λ post. IsPost (edge_post flow kind parts) post) posted) (by_answer (λ post. StepMeans parts Steps Faults Tail post) means) (by_answer (λ post. MeetsAll parts Faults Place post) all)
     where
       on_answer : (P : Post → Type 0) (given : Result Post NoMemory) → IfOk given P → IfOk (stopped given) P
       on_answer P (Ok post) holds = holds
@@ -104,7 +107,7 @@ module _ (flow : Flow) (point : ℕ) (instr kind : Instr) (parts : Parts) (is : 
 
   -- and one that may not
   all_met : {E : Type 0} (answer : Result Post E) → compares kind ≡ false → accesses kind ≡ false → IfOk answer (λ post. IsPost (edge_post flow kind parts) post) →
-      IfOk answer (λ post. (fault : ℕ) → post.loss ≢ Some 4 → Contains post.kinds fault → SomeFaults parts (Faults fault)) → IfOk answer (λ post. MeetsAll parts Faults post)
+      IfOk answer (λ post. (fault : ℕ) → post.loss ≢ Some 4 → Contains post.kinds fault → SomeFaults parts (Faults fault)) → IfOk answer (λ post. MeetsAll parts Faults Place post)
   all_met (Ok post) plain alone posted met = record { met = λ room fault listed. met fault (λ loss. never_four flow kind parts plain alone (sym posted.loss ∙ loss)) listed }
   all_met (Err error) plain alone posted met = tt
 
@@ -119,20 +122,20 @@ module _ (flow : Flow) (point : ℕ) (instr kind : Instr) (parts : Parts) (is : 
   plain_met Tail (Err error) means = tt
 
   pub alike_step : (Tail : Parts → Type 0) (result : Result Post Stop) → compares kind ≡ false → accesses kind ≡ false → IfOk result (λ post. IsPost (edge_post flow kind parts) post) →
-      IfOk result (λ post. StepMeansAlike parts Steps Faults Tail (HasRoomBack kind) post) → IfOk result (λ post. IsExactOfRegions parts Steps post) → IfOk result (λ post. EdgeMeans flow point instr parts post)
+      IfOk result (λ post. StepMeansAlike parts Steps Faults Tail (HasRoomBack kind) post) → IfOk result (λ post. IsExactOfRegions parts Steps post) → IfOk result (λ post. InstrMeans flow point instr parts post)
   alike_step Tail result plain alone posted means regions = alike_access Tail result plain posted means regions (all_met result plain alone posted (alike_met Tail result means))
 
   pub plain_step : (Tail : Parts → Type 0) (result : Result Post Stop) → compares kind ≡ false → accesses kind ≡ false → IfOk result (λ post. IsPost (edge_post flow kind parts) post) →
-      IfOk result (λ post. StepMeans parts Steps Faults Tail post) → IfOk result (λ post. EdgeMeans flow point instr parts post)
+      IfOk result (λ post. StepMeans parts Steps Faults Tail post) → IfOk result (λ post. InstrMeans flow point instr parts post)
   plain_step Tail result plain alone posted means = plain_access Tail result plain posted means (all_met result plain alone posted (plain_met Tail result means))
 
   pub stopped_step : (Tail : Parts → Type 0) (answer : Result Post NoMemory) (result : Result Post Stop) → compares kind ≡ false → accesses kind ≡ false → result ≡ stopped answer →
-      IfOk answer (λ post. IsPost (edge_post flow kind parts) post) → IfOk answer (λ post. StepMeans parts Steps Faults Tail post) → IfOk result (λ post. EdgeMeans flow point instr parts post)
+      IfOk answer (λ post. IsPost (edge_post flow kind parts) post) → IfOk answer (λ post. StepMeans parts Steps Faults Tail post) → IfOk result (λ post. InstrMeans flow point instr parts post)
   stopped_step Tail answer result plain alone same posted means = stopped_access Tail answer result plain same posted means (all_met answer plain alone posted (plain_met Tail answer means))
 
   -- a test stands for all that follow, whatever it loses, and lists no kind
   pub test_step : (Tail : Parts → Type 0) (result : Result Post Stop) → (edge_post flow kind parts).kinds ≡ [] → IfOk result (λ post. IsPost (edge_post flow kind parts) post) →
-      IfOk result (λ post. StepMeans parts Steps Faults Tail post) → IfOk result (λ post. StepSound parts Steps post) → IfOk result (λ post. EdgeMeans flow point instr parts post)
+      IfOk result (λ post. StepMeans parts Steps Faults Tail post) → IfOk result (λ post. StepSound parts Steps post) → IfOk result (λ post. InstrMeans flow point instr parts post)
   test_step Tail (Ok post) none posted means sounds = back post (record {
     sound = λ state next state_is stands steps excuse. sounds.sound state next state_is stands steps;
     exact = λ after next none among next_is stands room. follows_alike parts Steps next next_is (means.exact after next none among next_is stands);
@@ -148,7 +151,7 @@ module _ (flow : Flow) (point : ℕ) (instr kind : Instr) (parts : Parts) (is : 
 
 pub refuse_step : (flow : Flow) (point : ℕ) (instr : Instr) (parts : Parts) (into : ℕ) (result : Result Post Stop) → instr ≡ AllocateNone into →
     IfOk result (λ post. (state next : State) → StandsFor parts state → Refuses into state next → SomeStandsFor post.graphs next) →
-    IfOk result (λ post. (next : State) → IsState next → SomeStandsFor post.graphs next → Follows parts (Refuses into) next) → IfOk result (λ post. post.kinds ≡ []) → IfOk result (λ post. EdgeMeans flow point instr parts post)
+    IfOk result (λ post. (next : State) → IsState next → SomeStandsFor post.graphs next → Follows parts (Refuses into) next) → IfOk result (λ post. post.kinds ≡ []) → IfOk result (λ post. InstrMeans flow point instr parts post)
 refuse_step flow point instr parts into (Ok post) is sound exact faultless = back flow point instr (AllocateNone into) parts is post (record {
   sound = λ state next state_is stands steps excuse. sound state next stands steps;
   exact = λ after next none among next_is stands room. follows_alike parts (Refuses into) next next_is (exact next next_is (record { graph = after; among = among; stands = stands }));
@@ -172,7 +175,7 @@ pub finish_step : (flow : Flow) (point : ℕ) (instr : Instr) (parts : Parts) (r
     IfOk result (λ post. IsPost (finish_post parts registers) post) →
     IfOk result (λ post. (state next : State) → IsState state → StandsFor parts state → Finishes registers state next → SomeStandsFor post.graphs next) →
     IfOk result (λ post. post.loss ≡ None → (next : State) → IsState next → SomeStandsFor post.graphs next → Follows parts (Finishes registers) next) →
-    IfOk result (λ post. (kind : ℕ) → (Contains post.kinds kind ↔ SomeFaults parts (FaultsFinishing registers kind))) → IfOk result (λ post. EdgeMeans flow point instr parts post)
+    IfOk result (λ post. (kind : ℕ) → (Contains post.kinds kind ↔ SomeFaults parts (FaultsFinishing registers kind))) → IfOk result (λ post. InstrMeans flow point instr parts post)
 finish_step flow point instr parts registers (Ok post) is posted sound exact lists = back flow point instr (Finish registers) parts is post (record {
   sound = λ state next state_is stands steps excuse. sound state next state_is stands steps;
   exact = λ after next none among next_is stands room. follows_alike parts (Finishes registers) next next_is (exact none next next_is (record { graph = after; among = among; stands = stands }));
@@ -187,7 +190,7 @@ finish_step flow point instr parts registers (Err error) is posted sound exact l
 -- An offset as the code hands it on.
 pub shift_step : (flow : Flow) (point : ℕ) (instr : Instr) (parts : Parts) (into address : ℕ) (by given : ℤ) (Tail : Parts → Type 0) (answer : Result Post NoMemory) (result : Result Post Stop) →
     instr ≡ Shift into address by → given ≡ by → result ≡ stopped answer → IfOk answer (λ post. IsPost (shift_post parts into address given) post) →
-    IfOk answer (λ post. StepMeans parts (Shifts into address given) NoFault Tail post) → IfOk result (λ post. EdgeMeans flow point instr parts post)
+    IfOk answer (λ post. StepMeans parts (Shifts into address given) NoFault Tail post) → IfOk result (λ post. InstrMeans flow point instr parts post)
 shift_step flow point instr parts into address by given Tail answer result is same same' posted means =
     stopped_step flow point instr (Shift into address by) parts is Tail answer result refl refl same'
     (subst (λ (z : ℤ). IfOk answer (λ post. IsPost (shift_post parts into address z) post)) same posted)
@@ -195,7 +198,7 @@ shift_step flow point instr parts into address by given Tail answer result is sa
 
 pub shift_by_step : (flow : Flow) (point : ℕ) (instr : Instr) (parts : Parts) (into address by : ℕ) (scale given : ℤ) (Tail : Parts → Type 0) (answer : Result Post NoMemory) (result : Result Post Stop) →
     instr ≡ ShiftBy into address by scale → given ≡ scale → result ≡ stopped answer → IfOk answer (λ post. IsPost (shift_by_post parts into address by given) post) →
-    IfOk answer (λ post. StepMeans parts (ShiftsBy into address by given) NoFault Tail post) → IfOk result (λ post. EdgeMeans flow point instr parts post)
+    IfOk answer (λ post. StepMeans parts (ShiftsBy into address by given) NoFault Tail post) → IfOk result (λ post. InstrMeans flow point instr parts post)
 shift_by_step flow point instr parts into address by scale given Tail answer result is same same' posted means =
     stopped_step flow point instr (ShiftBy into address by scale) parts is Tail answer result refl refl same'
     (subst (λ (z : ℤ). IfOk answer (λ post. IsPost (shift_by_post parts into address by z) post)) same posted)
@@ -204,7 +207,7 @@ shift_by_step flow point instr parts into address by scale given Tail answer res
 -- A conversion asks for the size that is held, and that is the one that stands.
 pub convert_step : (flow : Flow) (point : ℕ) (instr : Instr) (parts : Parts) (into from size : ℕ) (signed : Bool) (Tail : Parts → Type 0) (answer : Result Post NoMemory) (result : Result Post Stop) →
     instr ≡ Convert into from size signed → size_held parts from ≡ sizes_at flow point from → result ≡ stopped answer → IfOk answer (λ post. IsPost (convert_post parts into from size signed) post) →
-    IfOk answer (λ post. StepMeans parts (Converts into from (size_held parts from) size signed) NoFault Tail post) → IfOk result (λ post. EdgeMeans flow point instr parts post)
+    IfOk answer (λ post. StepMeans parts (Converts into from (size_held parts from) size signed) NoFault Tail post) → IfOk result (λ post. InstrMeans flow point instr parts post)
 convert_step flow point instr parts into from size signed Tail answer result is held same posted means =
     stopped_step flow point instr (Convert into from size signed) parts is Tail answer result refl refl same posted
     (subst (λ (was : ℕ). IfOk answer (λ post. StepMeans parts (Converts into from was size signed) NoFault Tail post)) held means)
@@ -213,7 +216,7 @@ convert_step flow point instr parts into from size signed Tail answer result is 
 pub leave_step : (flow : Flow) (point : ℕ) (instr : Instr) (parts : Parts) (variables given : List ℕ) (result : Result Post Stop) →
     instr ≡ Leave variables → given ≡ variables → IfOk result (λ post. IsPost (leave_post parts given) post) →
     IfOk result (λ post. StepMeansAlike parts (LeavesScope given) (FaultsLeaving given) (LeaveTail parts given) (HasRoomFor (length given)) post) →
-    IfOk result (λ post. IsExactOfRegions parts (LeavesScope given) post) → IfOk result (λ post. EdgeMeans flow point instr parts post)
+    IfOk result (λ post. IsExactOfRegions parts (LeavesScope given) post) → IfOk result (λ post. InstrMeans flow point instr parts post)
 leave_step flow point instr parts variables given result is same posted means regions =
     alike_step flow point instr (Leave variables) parts is (LeaveTail parts variables) result refl refl
     (subst (λ (vs : List ℕ). IfOk result (λ post. IsPost (leave_post parts vs) post)) same posted)
@@ -222,7 +225,7 @@ leave_step flow point instr parts variables given result is same posted means re
 
 pub enter_step : (flow : Flow) (point : ℕ) (instr : Instr) (parts : Parts) (variables given : List ℕ) (result : Result Post Stop) →
     instr ≡ Enter variables → given ≡ variables → IfOk result (λ post. IsPost (enter_post parts given (map (size_in flow) given)) post) →
-    IfOk result (λ post. StepMeansAlike parts (Enters given (map (size_in flow) given)) NoFault (EnterTail parts given (map (size_in flow) given)) AnyMemory post) → IfOk result (λ post. EdgeMeans flow point instr parts post)
+    IfOk result (λ post. StepMeansAlike parts (Enters given (map (size_in flow) given)) NoFault (EnterTail parts given (map (size_in flow) given)) AnyMemory post) → IfOk result (λ post. InstrMeans flow point instr parts post)
 enter_step flow point instr parts variables given result is same posted means =
     alike_step flow point instr (Enter variables) parts is (EnterTail parts variables (map (size_in flow) variables)) result refl refl
     (subst (λ (vs : List ℕ). IfOk result (λ post. IsPost (enter_post parts vs (map (size_in flow) vs)) post)) same posted)

@@ -22,7 +22,7 @@ use Rattle.graph.specs.WellFormed.{passes_at, target_fits, leads_to_object, may_
 use Rattle.graph.specs.Whole.{IsGraph}
 use Rattle.graph.proofs.Found.{Holds, Holds-some, found-all}
 use Rattle.graph.proofs.Sent.{passes-some}
-use Rattle.graph.proofs.Tests.{and_left, and_right, and_both, list_all-implies}
+use Rattle.graph.proofs.Tests.{and_left, and_right, and_both}
 use Rattle.changes.specs.Following.{holds_size}
 use Rattle.changes.specs.Reaching.{names_no_segment, is_address_held}
 use Rattle.flow.specs.declared.flow_graph.Flow.{Flow}
@@ -38,9 +38,10 @@ use Rattle.graph.specs.WellFormed as graphs
 use Rattle.reinterpret.specs.Sameness.{are_of_one_size, keys_compare, may_compare}
 use Rattle.block_steps.specs.Entering.{MayEnter}
 use Rattle.edge_steps.specs.Laws.{sizes_at}
-use Rattle.heap_steps.specs.Closing.{has_a_block, none_is_empty}
 use Rattle.heap_steps.specs.Leaving.{MayLeave}
+use Rattle.heap_steps.specs.Regions.{AreRegions}
 use Rattle.register_steps.specs.Gaining.{size_held}
+use Rattle.settle.specs.Settled.{value_held, name_no_segment}
 use Rattle.transfer.specs.Fitting.{held_size, FitsAt}
 
 -- What is asked for.
@@ -89,14 +90,14 @@ region_target Last (Segment twofold head next prev back least next_value prev_va
 region_target Each RegionShape region fits object offset = absurd (false≢true fits)
 region_target Each (Segment twofold head next prev back least next_value prev_value node) region fits object offset = absurd (false≢true region)
 
-module _ (flow : Flow) (point : ℕ) (parts : Parts) (fits : FitsAt flow point parts) (graph : IsGraph parts) where
+module _ (parts : Parts) (regions : AreRegions parts.objects) (graph : IsGraph parts) where
   pub names_none : (key : ℕ) (value : Value) → value_at parts.values key ≡ Some value → names_no_segment value ≡ true
   names_none key (Const number size) is = refl
   names_none key (Number size) is = refl
   names_none key Any is = refl
   names_none key (Address object offset target) is =
       region_target target found.item.shape
-      (found-all (λ (entry : KeyedObject). entry.key) (λ entry. entry.object) (λ (o : Object). is_region o.shape) parts.objects object found.item fits.regions found.is)
+      (found-all (λ (entry : KeyedObject). entry.key) (λ entry. entry.object) (λ (o : Object). is_region o.shape) parts.objects object found.item regions found.is)
       (subst (λ (o : Option Object). option_map_or (λ (o : Object). target_fits target o.shape) o false ≡ true) found.is leads) object offset
     where
       leads : leads_to_object parts (Address object offset target) ≡ true
@@ -105,6 +106,31 @@ module _ (flow : Flow) (point : ℕ) (parts : Parts) (fits : FitsAt flow point p
       found : Holds (object_at parts.objects object)
       found = Holds-some (object_at parts.objects object) (passes-some (λ (o : Object). target_fits target o.shape) (object_at parts.objects object) leads)
 
+  -- so no register does
+  pub none_named : (registers : List ℕ) → name_no_segment registers parts ≡ true
+  none_named [] = refl
+  none_named (register ∷ rest) =
+      and_both (option_map_or names_no_segment (value_held parts register) true) (name_no_segment rest parts) (by_key (held_by parts.registers register)) (none_named rest)
+    where
+      by_value : (key : ℕ) (found : Option Value) → value_at parts.values key ≡ found → option_map_or names_no_segment found true ≡ true
+      by_value key None is = refl
+      by_value key (Some value) is = names_none key value is
+
+      by_key : (found : Option ℕ) → option_map_or names_no_segment (option_and_then (value_at parts.values) found) true ≡ true
+      by_key None = refl
+      by_key (Some key) = by_value key (value_at parts.values key) refl
+
+module _ (flow : Flow) (point : ℕ) (parts : Parts) (fits : FitsAt flow point parts) (graph : IsGraph parts) where
+  -- a register that names no segment
+  abbrev NamesNone : ℕ → Type 0
+  NamesNone register = option_map_or names_no_segment (value_held parts register) true ≡ true
+
+  held_names : (register size : ℕ) → NamesNone register → (has : HoldsSized parts register size) → names_no_segment has.value ≡ true
+  held_names register size names has =
+      sym (ap (λ (o : Option ℕ). option_map_or names_no_segment (option_and_then (value_at parts.values) o) true) has.held
+      ∙ ap (λ (o : Option Value). option_map_or names_no_segment o true) has.is)
+      ∙ names
+
   widths : List Width
   widths = (stands_at flow point).registers
 
@@ -112,12 +138,12 @@ module _ (flow : Flow) (point : ℕ) (parts : Parts) (fits : FitsAt flow point p
   sized_here register size is = holds_sized parts register size (fits.registers register ∙ is)
 
   -- a register holds an address
-  pub address_ready : (register : ℕ) → stands_as_asked (stands_at flow point).registers (sized 8 register) ≡ true → is_address_held parts register ≡ true
-  address_ready register asked =
+  pub address_ready : (register : ℕ) → NamesNone register → stands_as_asked (stands_at flow point).registers (sized 8 register) ≡ true → is_address_held parts register ≡ true
+  address_ready register names asked =
       let has = sized_here register 8 (asked_size (stands_at flow point).registers register 8 asked) in
       ap (λ (o : Option ℕ). option_map_or (passes_at parts (λ value. nat_eq (value_size value) 8 && names_no_segment value)) o false) has.held
       ∙ ap (λ (o : Option Value). option_map_or (λ value. nat_eq (value_size value) 8 && names_no_segment value) o false) has.is
-      ∙ and_both (nat_eq (value_size has.value) 8) (names_no_segment has.value) (eq-eqb _ _ has.size_is) (names_none has.key has.value has.is)
+      ∙ and_both (nat_eq (value_size has.value) 8) (names_no_segment has.value) (eq-eqb _ _ has.size_is) (held_names register 8 names has)
 
   -- a register holds a value of a size
   pub size_ready : (register size : ℕ) → stands_as_asked (stands_at flow point).registers (sized size register) ≡ true → holds_size parts register size ≡ true
@@ -136,8 +162,8 @@ module _ (flow : Flow) (point : ℕ) (parts : Parts) (fits : FitsAt flow point p
       by_size (Some size) is some = let has = sized_here register size is in subst (λ (o : Option ℕ). IsSome o) (sym has.held) refl
 
   -- two registers hold values of one size
-  pub compare_ready : (one other : ℕ) → same_size (size_of (stands_at flow point).registers one) (size_of (stands_at flow point).registers other) ≡ true → may_compare parts one other ≡ true
-  compare_ready one other same = by_sizes (size_of (stands_at flow point).registers one) refl (size_of (stands_at flow point).registers other) refl same
+  pub compare_ready : (one other : ℕ) → NamesNone one → NamesNone other → same_size (size_of (stands_at flow point).registers one) (size_of (stands_at flow point).registers other) ≡ true → may_compare parts one other ≡ true
+  compare_ready one other names names' same = by_sizes (size_of (stands_at flow point).registers one) refl (size_of (stands_at flow point).registers other) refl same
     where
       by_sizes : (first : Option ℕ) → size_of (stands_at flow point).registers one ≡ first → (second : Option ℕ) → size_of (stands_at flow point).registers other ≡ second → same_size first second ≡ true → may_compare parts one other ≡ true
       by_sizes None is second is_second same = absurd (false≢true same)
@@ -151,7 +177,7 @@ module _ (flow : Flow) (point : ℕ) (parts : Parts) (fits : FitsAt flow point p
           ∙ ap (λ (o : Option Value). option_map_or (are_of_one_size has.value) o false) has'.is
           ∙ and_both (nat_eq (value_size has.value) (value_size has'.value)) (names_no_segment has.value && names_no_segment has'.value)
           (eq-eqb _ _ (has.size_is ∙ eqb-true _ _ same ∙ sym has'.size_is))
-          (and_both (names_no_segment has.value) (names_no_segment has'.value) (names_none has.key has.value has.is) (names_none has'.key has'.value has'.is))
+          (and_both (names_no_segment has.value) (names_no_segment has'.value) (held_names one size names has) (held_names other size' names' has'))
 
   -- variables begin to stand
   small_sizes : All (λ variable. IsTrue (is_object_size variable.size)) flow.variables → (variables : List ℕ) → list_all (λ size. nat_le size 65536) (map (size_in flow) variables) ≡ true
@@ -178,13 +204,13 @@ module _ (flow : Flow) (point : ℕ) (parts : Parts) (fits : FitsAt flow point p
       by_fixed None local b is = absurd (false≢true local)
       by_fixed (Some found) local b is = ap (λ (f : Bool). f || b) (by_stands found.fixed local) ∙ by_stands b is
 
-  none_named : (variables : List ℕ) → list_all (λ variable. is_local flow variable && not (list_any (nat_eq variable) (stands_at flow point).variables)) variables ≡ true →
+  none_stored : (variables : List ℕ) → list_all (λ variable. is_local flow variable && not (list_any (nat_eq variable) (stands_at flow point).variables)) variables ≡ true →
       list_all (λ variable. is_none (storage_of parts.variables variable)) variables ≡ true
-  none_named [] all = refl
-  none_named (variable ∷ rest) all =
+  none_stored [] all = refl
+  none_stored (variable ∷ rest) all =
       and_both (is_none (storage_of parts.variables variable)) (list_all (λ variable. is_none (storage_of parts.variables variable)) rest)
       (not_named variable (and_left (is_local flow variable && not (list_any (nat_eq variable) (stands_at flow point).variables)) (list_all (λ variable. is_local flow variable && not (list_any (nat_eq variable) (stands_at flow point).variables)) rest) all))
-      (none_named rest (and_right (is_local flow variable && not (list_any (nat_eq variable) (stands_at flow point).variables)) (list_all (λ variable. is_local flow variable && not (list_any (nat_eq variable) (stands_at flow point).variables)) rest) all))
+      (none_stored rest (and_right (is_local flow variable && not (list_any (nat_eq variable) (stands_at flow point).variables)) (list_all (λ variable. is_local flow variable && not (list_any (nat_eq variable) (stands_at flow point).variables)) rest) all))
 
   many : (variables : List ℕ) → length (map (size_in flow) variables) ≡ length variables
   many [] = refl
@@ -209,7 +235,7 @@ module _ (flow : Flow) (point : ℕ) (parts : Parts) (fits : FitsAt flow point p
     many = many variables;
     small = small_sizes all variables;
     distinct = sym (distinct_same variables) ∙ and_left (flows.are_distinct variables) (list_all (λ variable. is_local flow variable && not (list_any (nat_eq variable) (stands_at flow point).variables)) variables) scope;
-    unnamed = none_named variables (and_right (flows.are_distinct variables) (list_all (λ variable. is_local flow variable && not (list_any (nat_eq variable) (stands_at flow point).variables)) variables) scope);
+    unnamed = none_stored variables (and_right (flows.are_distinct variables) (list_all (λ variable. is_local flow variable && not (list_any (nat_eq variable) (stands_at flow point).variables)) variables) scope);
   }
 
   -- variables that stand may be left
@@ -229,14 +255,6 @@ module _ (flow : Flow) (point : ℕ) (parts : Parts) (fits : FitsAt flow point p
     distinct = sym (distinct_same variables) ∙ and_left (flows.are_distinct variables) (list_all (λ variable. list_any (nat_eq variable) (stands_at flow point).variables) variables) scope;
     named = some_named variables (and_right (flows.are_distinct variables) (list_all (λ variable. list_any (nat_eq variable) (stands_at flow point).variables) variables) scope);
   }
-
-  -- no segment may be empty, as there is none
-  has_block : (shape : Shape) → is_region shape ≡ true → has_a_block shape ≡ true
-  has_block RegionShape region = refl
-  has_block (Segment twofold head next prev back least next_value prev_value node) region = absurd (false≢true region)
-
-  pub close_ready : none_is_empty parts ≡ true
-  close_ready = list_all-implies (λ (entry : KeyedObject). is_region entry.object.shape) (λ entry. has_a_block entry.object.shape) (λ entry. has_block entry.object.shape) parts.objects fits.regions
 
   -- the size of what a register holds is the one that stands
   pub size_stands : (register : ℕ) → size_held parts register ≡ sizes_at flow point register

@@ -18,10 +18,11 @@ use Rattle.flow.specs.Machine.{size_in}
 use Rattle.flow.specs.Runs.{parameters_of}
 use Rattle.flow.specs.Valid.{IsFlow, is_initial, is_object_size}
 use Rattle.block_steps.specs.Entering.{MayEnter}
+use Rattle.heap_steps.specs.Regions.{AreRegions}
 use Rattle.transfer.specs.Fitting.{FitsAt}
 use Rattle.transfer.specs.Start.{AreNamed, MayStand, with_static, with_statics, initial_value, object_found, with_scalar, with_initial, with_initials, static_graph, IsStartGraph}
 use Rattle.transfer.proofs.InitialWritten.{named_after, may_stand}
-use Rattle.transfer.proofs.StartSound.{statics_are_named, few_variables, static_graph_named, parameters_may_enter, start_fits}
+use Rattle.transfer.proofs.StartSound.{statics_are_named, few_variables, static_graph_named, parameters_may_enter, start_fits, start_regions}
 
 -- The loop over scalars.
 
@@ -113,3 +114,7 @@ parameters_ready flow parts given sizes valid few is given_is sizes_are =
 pub started : (flow : Flow) (result : Result Parts Stop) → IsFlow flow → IfOk result (λ graph. IsStartGraph flow graph) → IfOk result (λ graph. FitsAt flow (entry_of flow flow.main) graph)
 started flow (Ok parts) valid start = subst (FitsAt flow (entry_of flow flow.main)) (sym start.is) (start_fits flow valid (subst IsGraph start.is start.graph))
 started flow (Err error) valid start = tt
+
+pub started_regions : (flow : Flow) (result : Result Parts Stop) → IsFlow flow → IfOk result (λ graph. IsStartGraph flow graph) → IfOk result (λ graph. AreRegions graph.objects)
+started_regions flow (Ok parts) valid start = subst (λ (p : Parts). AreRegions p.objects) (sym start.is) (start_regions flow valid (subst IsGraph start.is start.graph))
+started_regions flow (Err error) valid start = tt

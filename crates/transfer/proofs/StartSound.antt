@@ -46,6 +46,7 @@ use Rattle.flow.specs.Valid.{IsFlow, is_fixed, is_local, is_parameter, is_initia
 use Rattle.flow.specs.Valid as flows
 use Rattle.flow.proofs.Ascending.{All-at}
 use Rattle.flow.proofs.Outcomes.{Leaves, Leaves-weaker, Leaves-then}
+use Rattle.heap_steps.specs.Regions.{AreRegions}
 use Rattle.heap_steps.proofs.Listed.{Contains-first, Contains-later, Contains-cases, Contains-none}
 use Rattle.block_steps.specs.Blocks.{new_object}
 use Rattle.block_steps.specs.Entering.{MayEnter, Enters, EnterTail, with_entered_one, with_entered}
@@ -420,7 +421,6 @@ module _ (flow : Flow) (valid : IsFlow flow) (graph : IsGraph (start_graph flow)
     variables = λ variable. static_named.named variable ∙ sym (or_false (is_fixed flow variable));
     registers = λ register. ap (λ (hs : List Held). option_and_then (λ key. option_map value_size (value_at (static_graph flow).values key)) (held_by hs register)) static_named.registers;
     ports = static_named.ports;
-    regions = static_named.regions;
   }
     where
       or_false : (b : Bool) → (b || false) ≡ b
@@ -429,7 +429,7 @@ module _ (flow : Flow) (valid : IsFlow flow) (graph : IsGraph (start_graph flow)
 
   stands_with : FitsWith flow (record { variables = with_variables parameters []; registers = emptied_widths [] [] }) (start_graph flow)
   stands_with =
-      enter_fits flow (record { variables = []; registers = [] }) (static_graph flow) (start_graph flow) static_named.graph begins_with (keeps_entered parameters sizes (static_graph flow)) parameters start_tail
+      enter_fits flow (record { variables = []; registers = [] }) (static_graph flow) (start_graph flow) static_named.graph begins_with parameters start_tail
 
   any_in : (numbers : List ℕ) (number : ℕ) → list_any (nat_eq number) numbers ≡ true → Contains numbers number
   any_in [] number is = absurd (false≢true is)
@@ -456,6 +456,9 @@ module _ (flow : Flow) (valid : IsFlow flow) (graph : IsGraph (start_graph flow)
   same_truth false true there back = absurd (false≢true (back refl))
   same_truth false false there back = refl
 
+  pub start_regions : AreRegions (start_graph flow).objects
+  start_regions = (keeps_entered parameters sizes (static_graph flow)).regions static_named.regions
+
   pub start_fits : FitsAt flow (entry_of flow flow.main) (start_graph flow)
   start_fits = by_found (slice_get flow.functions flow.main) refl
     where
@@ -476,7 +479,6 @@ module _ (flow : Flow) (valid : IsFlow flow) (graph : IsGraph (start_graph flow)
         variables = λ variable. stands_with.variables variable ∙ ap (λ (b : Bool). is_fixed flow variable || b) (stood variable);
         registers = λ register. stands_with.registers register ∙ sym (ap (λ (ws : List Width). size_of ws register) bare);
         ports = stands_with.ports;
-        regions = stands_with.regions;
       }
         where
           bare : (stands_at flow (entry_of flow flow.main)).registers ≡ []

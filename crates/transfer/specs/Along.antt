@@ -1,5 +1,6 @@
 -- What is known of the post of a graph along an edge.
-use Rattle.std.specs.Prelude.{Bool, false, not, nat_le, length}
+use Rattle.std.specs.Prelude.{Bool, false, not, ◌||◌, nat_le, length}
+use Rattle.std.specs.List.{list_any}
 use Rattle.graph.specs.declared.parts.Parts.{Parts}
 use Rattle.graph.specs.declared.post.Post.{Post}
 use Rattle.changes.specs.Posted.{IsPost}
@@ -8,12 +9,14 @@ use Rattle.flow.specs.declared.flow_graph.FlowEdge.{FlowEdge}
 use Rattle.flow.specs.declared.instruction.Instr.{Instr}
 use Rattle.flow.specs.declared.instruction.Instr.TheVariants.{Number, Address, Move, Read, Write, Shift, ShiftBy, Compute, Convert, IfSame, IfDifferent, Allocate, AllocateNone, Release, Fill, Copy, Enter, Leave, Finish, Input, Call, Return, Close}
 use Rattle.block_steps.specs.Blocks.{has_room}
+use Rattle.settle.specs.Settled.{settled, is_too_large}
 use Rattle.transfer.specs.Means.{EdgeMeans}
-use Rattle.transfer.specs.Posts.{edge_post}
+use Rattle.transfer.specs.Through.{goes_through}
+use Rattle.transfer.specs.Together.{post_along}
 
--- it is the one of the table, with what that means
+-- it is the one of the definition, with what that means
 pub record IsPostAlong (flow : Flow) (edge : FlowEdge) (parts : Parts) (post : Post) : Type 0 where
-  pub is : IsPost (edge_post flow edge.instr parts) post
+  pub is : IsPost (post_along flow edge.instr parts) post
   pub means : EdgeMeans flow edge.from edge.instr parts post
 
 -- the graph has no room for what an instruction makes: an object for each variable that begins to stand or block that is allocated, and a pair
@@ -42,3 +45,7 @@ is_full (Input into size signed truth) parts = false
 is_full (Call function arguments into) parts = false
 is_full (Return from) parts = false
 is_full Close parts = false
+
+-- along an edge: a segment that is named is too large to be split, or there is no room in one of the graphs that the graph then is
+abbrev pub is_full_along : Instr → Parts → Bool
+is_full_along instr parts = is_too_large (goes_through instr) parts || list_any (is_full instr) (settled (goes_through instr) parts)

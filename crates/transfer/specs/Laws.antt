@@ -8,14 +8,19 @@ use Rattle.graph.specs.Meaning.{StandsFor}
 use Rattle.graph.specs.State as graphs
 use Rattle.flow.specs.declared.flow_graph.Flow.{Flow}
 use Rattle.flow.specs.declared.flow_graph.FlowEdge.{FlowEdge}
+use Rattle.flow.specs.declared.instruction.Instr.{Instr}
 use Rattle.flow.specs.Machine.{State, Went}
 use Rattle.flow.specs.Runs.{start, StepsTo, FaultsAlong}
 use Rattle.flow.specs.RunStates.{IsRunState}
 use Rattle.flow.specs.Valid.{IsFlow}
 use Rattle.edge_steps.specs.EdgeSteps.{is_ordinary}
 use Rattle.edge_steps.specs.Seen.{seen}
-use Rattle.transfer.specs.Along.{IsPostAlong}
+use Rattle.settle.specs.Settled.{name_no_segment}
+use Rattle.transfer.specs.Along.{IsPostAlong, is_full, is_full_along}
+use Rattle.transfer.specs.Posts.{edge_post}
 use Rattle.transfer.specs.Start.{IsStartGraph}
+use Rattle.transfer.specs.Through.{goes_through}
+use Rattle.transfer.specs.Together.{post_along}
 
 -- a state of a run, with no callers and nothing outside
 pub record IsOf (flow : Flow) (state : State) : Type 0 where
@@ -61,3 +66,8 @@ DoPostsHave = (flow : Flow) (number : ℕ) (edge : FlowEdge) (parts : Parts) (po
 -- the kinds of a post hang on the edge and the graph alone
 abbrev pub AreKindsSame : Type 0
 AreKindsSame = (flow : Flow) (edge : FlowEdge) (parts : Parts) (one other : Post) → IsPostAlong flow edge parts one → IsPostAlong flow edge parts other → one.kinds ≡ other.kinds
+
+-- where no register through which an instruction goes names a segment the post is that of the table, and as full
+abbrev pub IsUnsplitPost : Type 0
+IsUnsplitPost = (flow : Flow) (instr : Instr) (parts : Parts) → name_no_segment (goes_through instr) parts ≡ true →
+    (post_along flow instr parts ≡ edge_post flow instr parts) × (is_full_along instr parts ≡ is_full instr parts)

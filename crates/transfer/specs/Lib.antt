@@ -1,6 +1,11 @@
+pub mod Through
 pub mod Fitting
+pub mod OfRegions
+pub mod Ending
 pub mod Posts
+pub mod Together
 pub mod Means
+pub mod Settling
 pub mod Machine
 pub mod Along
 pub mod Start

@@ -1,4 +1,4 @@
--- The post of an edge: a line for each instruction.
+-- The post of an instruction on a graph in which no register through which it goes names a segment: a line for each.
 use Rattle.std.specs.Prelude.{Bool, true, false, map}
 use Rattle.graph.specs.declared.parts.Parts.{Parts}
 use Rattle.changes.specs.Posted.{Posted, no_post}
@@ -9,7 +9,6 @@ use Rattle.flow.specs.Machine.{size_in}
 use Rattle.reinterpret.specs.Reading.{read_post}
 use Rattle.reinterpret.specs.Testing.{equal_post}
 use Rattle.reinterpret.specs.Writing.{write_post}
-use Rattle.heap_steps.specs.Closing.{close_post}
 use Rattle.heap_steps.specs.Leaving.{leave_post}
 use Rattle.heap_steps.specs.Posts.{refuse_post, finish_post}
 use Rattle.range_steps.specs.Filling.{fill_post}
@@ -18,6 +17,7 @@ use Rattle.block_steps.specs.Allocating.{allocate_post}
 use Rattle.block_steps.specs.Entering.{enter_post}
 use Rattle.block_steps.specs.Releasing.{release_post}
 use Rattle.register_steps.specs.Steps.{number_post, address_post, move_post, shift_post, shift_by_post, compute_post, convert_post, input_post}
+use Rattle.transfer.specs.Ending.{end_post}
 
 -- an instruction that has a step on graphs
 abbrev pub has_step : Instr → Bool
@@ -48,4 +48,4 @@ edge_post flow (Finish registers) parts = finish_post parts registers
 edge_post flow (Input into size signed truth) parts = input_post parts into size truth
 edge_post flow (Call function arguments into) parts = no_post
 edge_post flow (Return from) parts = no_post
-edge_post flow Close parts = close_post parts
+edge_post flow Close parts = end_post parts

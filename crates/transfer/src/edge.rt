@@ -1,143 +1,39 @@
 //! The post of an edge.
-ghost use Rattle.std.specs.Prelude.{◌≡◌, true, false, map, length, IfOk, IfErr, IfSome, IsSome, slice_get};
-ghost use Rattle.block_steps.specs.Blocks.{AnyMemory, NoFault, has_room};
-ghost use Rattle.block_steps.specs.Entering.{EnterTail, MayEnter, Enters, enter_post};
-ghost use Rattle.changes.specs.FollowingAlike.{StepMeansAlike};
+ghost use Rattle.std.specs.Prelude.{◌≡◌, true, IfOk, IfErr, IfSome, IsSome, slice_get};
 ghost use Rattle.changes.specs.Posted.{IsPost};
-ghost use Rattle.flow.specs.Machine.{size_in};
-ghost use Rattle.flow.specs.Standing.{stands_at, stands_after};
 ghost use Rattle.flow.specs.Valid.{IsFlow};
-ghost use Rattle.transfer.specs.Along.{is_full};
-ghost use Rattle.transfer.specs.Fitting.{FitsAt, FitAt, FitWith, MayFollow};
-ghost use Rattle.transfer.specs.Means.{EdgeMeans, stopped};
-ghost use Rattle.transfer.specs.Posts.{has_step, edge_post};
+ghost use Rattle.heap_steps.specs.Regions.{AreRegions};
+ghost use Rattle.transfer.specs.Along.{is_full_along};
+ghost use Rattle.transfer.specs.Fitting.{FitsAt, FitAt};
+ghost use Rattle.transfer.specs.Means.{EdgeMeans};
+ghost use Rattle.transfer.specs.OfRegions.{AreOfRegions};
+ghost use Rattle.transfer.specs.Posts.{has_step};
+ghost use Rattle.transfer.specs.Together.{post_along};
 
-use crate::sizes::sizes_in;
-use block_steps::{allocate, enter, release};
-use cbase::{NoMemory, Stop};
-use flow::{Flow, Instr};
+use crate::along::post_along;
+use cbase::Stop;
+use flow::Flow;
 use graph::{Graph, Post};
-use heap_steps::{close, finish, leave, refuse};
-use range_steps::{copy, fill};
-use register_steps::{address, compute, convert, input, move_to, number, shift, shift_by};
-use reinterpret::{read, test_equal, write};
 use std::alloc::Global;
 
-/// The answer of a step that is never too large.
-fn stop(answer: Result<Post, NoMemory>) -> Result<Post, Stop>
-    ensures { result ≡ stopped answer }
-{
-    match answer {
-        Ok(post) => Ok(post),
-        Err(NoMemory) => Err(Stop::NoMemory),
-    }
-}
-
-/// The post where variables begin to stand.
-fn entered(alloc: Global, flow: &Flow, graph: &Graph, variables: &[u32]) -> Result<Post, Stop>
-    requires may { MayEnter graph.now variables.now (map (size_in flow.now) variables.now) }
-    ensures post { IfOk result (λ post. IsPost (enter_post graph.now variables.now (map (size_in flow.now) variables.now)) post) }
-    ensures means { IfOk result (λ post. StepMeansAlike graph.now (Enters variables.now (map (size_in flow.now) variables.now)) NoFault (EnterTail graph.now variables.now (map (size_in flow.now) variables.now)) AnyMemory post) }
-    ensures large { IfErr result (λ stop. stop ≡ Stop.Large → has_room graph.now (length variables.now) ≡ false) }
-{
-    match sizes_in(alloc, flow, variables) {
-        Err(NoMemory) => Err(Stop::NoMemory),
-        Ok(sizes) => enter(alloc, graph, variables, sizes.as_slice()),
-    }
-}
-
-/// The post of an instruction.
-fn post_of(
-    alloc: Global,
-    flow: &Flow,
-    point: u32,
-    instr: &Instr,
-    graph: &Graph,
-) -> Result<Post, Stop>
-    requires flow { IsFlow flow.now }
-    requires step { has_step instr.now ≡ true }
-    requires may { MayFollow flow.now point instr.now graph.now }
-    ensures post { IfOk result (λ post. IsPost (edge_post flow.now instr.now graph.now) post) }
-    ensures means { IfOk result (λ post. EdgeMeans flow.now point instr.now graph.now post) }
-    ensures fits { IfOk result (λ post. FitWith flow.now (stands_after flow.now instr.now (stands_at flow.now point)) post.graphs) }
-    ensures large { IfErr result (λ stop. stop ≡ Stop.Large → is_full instr.now graph.now ≡ true) }
-{
-    let _ = graph.value_count();
-    match instr {
-        Instr::Number { into, value, size } => stop(number(alloc, graph, *into, *value, *size)),
-        Instr::Address { into, variable } => stop(address(alloc, graph, *into, *variable)),
-        Instr::Move { into, from } => stop(move_to(alloc, graph, *into, *from)),
-        Instr::Read {
-            into,
-            at,
-            size,
-            pointer,
-        } => stop(read(alloc, graph, *at, *size, *pointer, *into)),
-        Instr::Write { at, from, size } => stop(write(alloc, graph, *at, *size, *from)),
-        Instr::Shift { into, at, by } => stop(shift(alloc, graph, *into, *at, *by)),
-        Instr::ShiftBy {
-            into,
-            at,
-            by,
-            scale,
-        } => stop(shift_by(alloc, graph, *into, *at, *by, *scale)),
-        Instr::Compute {
-            into,
-            op,
-            left,
-            right,
-            size,
-            signed,
-        } => stop(compute(alloc, graph, *into, *op, *left, *right, *size, *signed)),
-        Instr::Convert {
-            into,
-            from,
-            size,
-            signed,
-        } => stop(convert(alloc, graph, *into, *from, *size, *signed)),
-        Instr::IfSame { left, right } => test_equal(alloc, graph, *left, *right, true),
-        Instr::IfDifferent { left, right } => test_equal(alloc, graph, *left, *right, false),
-        Instr::Allocate {
-            into,
-            bytes,
-            zeroed,
-        } => allocate(alloc, graph, *bytes, *zeroed, *into),
-        Instr::AllocateNone { into } => refuse(alloc, graph, *into),
-        Instr::Release { at } => release(alloc, graph, *at),
-        Instr::Fill { at, from, length } => fill(alloc, graph, *at, *from, *length),
-        Instr::Copy {
-            to,
-            from,
-            length,
-            disjoint,
-        } => copy(alloc, graph, *to, *from, *length, *disjoint),
-        Instr::Enter { variables } => entered(alloc, flow, graph, variables.as_slice()),
-        Instr::Leave { variables } => leave(alloc, graph, variables.as_slice()),
-        Instr::Finish { registers } => finish(alloc, graph, registers),
-        Instr::Input {
-            into,
-            size,
-            truth,
-            ..
-        } => stop(input(alloc, graph, *into, *size, *truth)),
-        Instr::Close => close(alloc, graph),
-        Instr::Call { .. } | Instr::Return { .. } => unreachable!(),
-    }
-}
-
 /// The post of an edge, by its number, on a graph that fits the point where it begins.
+///
+/// Where a register through which the instruction goes names a segment, that is split into its cases first; the graphs of all cases stand one behind the other,
+/// and the kinds are those of all. The loss is the least of all, but that loss 4 beside a kind of one, for an access through any word, is the loss of all.
+/// A graph of regions has graphs of regions. `Large` comes only where a segment cannot be split or a case has no room for what the instruction makes.
 pub fn post(alloc: Global, flow: &Flow, edge: u32, graph: &Graph) -> Result<Post, Stop>
     requires flow { IsFlow flow.now }
     requires there { IsSome (slice_get flow.now.edges edge) }
     requires step { IfSome (slice_get flow.now.edges edge) (λ edge. has_step edge.instr ≡ true) }
     requires fits { IfSome (slice_get flow.now.edges edge) (λ edge. FitsAt flow.now edge.from graph.now) }
-    ensures post { IfOk result (λ post. IfSome (slice_get flow.now.edges edge) (λ edge. IsPost (edge_post flow.now edge.instr graph.now) post)) }
+    ensures post { IfOk result (λ post. IfSome (slice_get flow.now.edges edge) (λ edge. IsPost (post_along flow.now edge.instr graph.now) post)) }
     ensures means { IfOk result (λ post. IfSome (slice_get flow.now.edges edge) (λ edge. EdgeMeans flow.now edge.from edge.instr graph.now post)) }
     ensures fits { IfOk result (λ post. IfSome (slice_get flow.now.edges edge) (λ edge. FitAt flow.now edge.to post.graphs)) }
-    ensures large { IfErr result (λ stop. stop ≡ Stop.Large → IfSome (slice_get flow.now.edges edge) (λ edge. is_full edge.instr graph.now ≡ true)) }
+    ensures regions { IfOk result (λ post. AreRegions graph.now.objects → AreOfRegions post.graphs) }
+    ensures large { IfErr result (λ stop. stop ≡ Stop.Large → IfSome (slice_get flow.now.edges edge) (λ edge. is_full_along edge.instr graph.now ≡ true)) }
 {
     match flow.edges.as_slice().get(edge as usize) {
         None => unreachable!(),
-        Some(edge) => post_of(alloc, flow, edge.from, &edge.instr, graph),
+        Some(edge) => post_along(alloc, flow, edge.from, &edge.instr, graph),
     }
 }

@@ -1,5 +1,5 @@
 //! The laws. Each is the contract of a function that does nothing.
-ghost use Rattle.transfer.specs.Laws.{DoesStartStand, IsStartExact, DoPostsStand, DoPostsHave, AreKindsSame};
+ghost use Rattle.transfer.specs.Laws.{DoesStartStand, IsStartExact, DoPostsStand, DoPostsHave, AreKindsSame, IsUnsplitPost};
 ghost use Rattle.transfer.specs.Machine.{ArePostsSound};
 
 /// Where the graph before stands for what is seen of a state of a run, the graphs of a post stand for what is seen of each state to which the flow machine
@@ -32,4 +32,9 @@ pub fn each_kind_is_listed()
 /// Two posts of one graph along one edge have the same kinds.
 pub fn kinds_are_those_of_the_edge()
     ensures { AreKindsSame }
+{}
+
+/// Where no register through which an instruction goes names a segment, as in each graph of regions, the post is that of the table.
+pub fn what_is_not_split_has_the_post_of_the_table()
+    ensures { IsUnsplitPost }
 {}

@@ -6,6 +6,7 @@ ghost use Rattle.flow.specs.Machine.{size_in};
 ghost use Rattle.flow.specs.Runs.{parameters_of};
 ghost use Rattle.flow.specs.Valid.{IsFlow};
 ghost use Rattle.graph.specs.Whole.{IsGraph, no_parts};
+ghost use Rattle.heap_steps.specs.Regions.{AreRegions};
 ghost use Rattle.transfer.specs.Fitting.{FitsAt};
 ghost use Rattle.transfer.specs.Start.{static_graph, IsStartGraph};
 
@@ -126,12 +127,13 @@ fn begun(alloc: Global, flow: &Flow, graph: &Graph) -> Result<Graph, Stop>
 /// The graph of all states in which runs of a flow graph begin: each static variable with what it holds at the start, and main's
 /// parameters with any numbers in their bytes.
 ///
-/// It stands for each state in which a run begins. `Large` comes only where the flow graph has 2^25 variables. It takes time in proportion to the
+/// It stands for each state in which a run begins, and its objects are regions. `Large` comes only where the flow graph has 2^25 variables. It takes time in proportion to the
 /// variables and, for each scalar of an initialiser, to the static variables and to the scalars that stand in its own.
 pub fn start(alloc: Global, flow: &Flow) -> Result<Graph, Stop>
     requires flow { IsFlow flow.now }
     ensures start { IfOk result (λ graph. IsStartGraph flow.now graph) }
     ensures fits { IfOk result (λ graph. FitsAt flow.now (entry_of flow.now flow.now.main) graph) }
+    ensures regions { IfOk result (λ graph. AreRegions graph.objects) }
     ensures large { IfErr result (λ stop. stop ≡ Stop.Large → 33554432 ≤ length flow.now.variables) }
 {
     if flow.variables.len() >= TOO_MANY {

@@ -1,11 +1,11 @@
-use Rattle.std.proofs.Common.{rules, ◌≡◌, true, false, [], refl, sym, ◌∙◌, ap, ◌∷◌, to_z, of_z, w64}
+use Rattle.std.proofs.Common.{rules, true, false, [], refl, sym, ◌∙◌, ap, ◌∷◌, to_z, of_z, w64}
 use Rattle.std.specs.Prelude.{ℤ}
 use Rattle.std.proofs.lemmas.Int.{to_z-of_z}
 use Rattle.block_steps.specs.Allocating.{AllocateTail, Allocates}
 use Rattle.block_steps.specs.Blocks.{NoFault}
 use Rattle.block_steps.specs.Releasing.{ReleaseTail}
 use Rattle.changes.specs.Following.{WriteTail}
-use Rattle.flow.specs.declared.instruction.Instr.TheVariants.{Number, Address, Move, Read, Write, Shift, ShiftBy, Compute, Convert, IfSame, IfDifferent, Allocate, Release, Fill, Copy, Input, Close}
+use Rattle.flow.specs.declared.instruction.Instr.TheVariants.{Number, Address, Move, Read, Write, Shift, ShiftBy, Compute, Convert, IfSame, IfDifferent, Allocate, Release, Fill, Copy, Input}
 use Rattle.register_steps.specs.Gaining.{GainTail, size_held}
 use Rattle.register_steps.specs.Lines.{size_given}
 use Rattle.range_steps.specs.Filling.{FaultsFilling}
@@ -13,11 +13,12 @@ use Rattle.reinterpret.specs.Means.{ReadTail}
 use Rattle.reinterpret.specs.Sameness.{EqualTail}
 use Rattle.reinterpret.specs.States.{FaultsReading, FaultsWriting}
 use Rattle.transfer.proofs.Asked.{read_ready, write_ready, same_ready, different_ready, fill_ready, release_ready, target_ready, source_ready, entered_ready, left_ready}
+use Rattle.transfer.proofs.EndMeans.{end_step}
 use Rattle.transfer.proofs.Listed.{of_listed, of_copied, of_released, equal_none}
-use Rattle.transfer.proofs.Ready.{close_ready, size_stands}
-use Rattle.transfer.proofs.Meaning.{plain_access, plain_step, stopped_access, stopped_step, alike_access, alike_regions, alike_step, refuse_step, finish_step, shift_step, shift_by_step, convert_step, leave_step, test_step, enter_step}
+use Rattle.transfer.proofs.Ready.{size_stands}
+use Rattle.transfer.proofs.Meaning.{plain_access, stopped_access, stopped_step, alike_access, alike_regions, alike_step, refuse_step, finish_step, shift_step, shift_by_step, convert_step, leave_step, test_step, enter_step}
 use Rattle.transfer.proofs.Fits.{gain_fit, read_fit, write_fit, stopped_write_fit, equal_fit, release_fit, allocate_fit, refuse_fit, enter_fit, leave_fit, finish_fit, close_fit, move_stands, compute_stands}
-use Rattle.transfer.proofs.edge.post_of.Goals as goal
+use Rattle.transfer.proofs.instruction.post_of.Goals as goal
 
 pub read-requires-clause-address : goal.read-requires-clause-address
 read-requires-clause-address c =
@@ -59,9 +60,6 @@ leave-requires c = record {
   may = left_ready c.args.flow.now c.args.point c.args.instr.now c.args.graph.now c.requires.may c.value_count.ensures.graph c.in-Leave.variables c.as_slice-in-Leave.result.now c.as_slice-in-Leave.ensures c.in-Leave.is;
 }
 
-pub close-requires : goal.close-requires
-close-requires c = record { segments = close_ready c.args.flow.now c.args.point c.args.graph.now c.requires.may.fits c.value_count.ensures.graph }
-
 pub returns-in-Number-clause-means : goal.returns-in-Number-clause-means
 returns-in-Number-clause-means c =
     stopped_step c.args.flow.now c.args.point c.args.instr.now (Number c.in-Number.into c.in-Number.value c.in-Number.size) c.args.graph.now c.in-Number.is (GainTail c.args.graph.now [] c.in-Number.into c.in-Number.size) c.number.result c.stop.result refl refl c.stop.ensures c.number.ensures.post c.number.ensures.means
@@ -77,12 +75,12 @@ returns-in-Move-clause-means c =
 pub returns-in-Read-clause-means : goal.returns-in-Read-clause-means
 returns-in-Read-clause-means c =
     stopped_access c.args.flow.now c.args.point c.args.instr.now (Read c.in-Read.into c.in-Read.at c.in-Read.size c.in-Read.pointer) c.args.graph.now c.in-Read.is (ReadTail c.args.graph.now (c.in-Read.at ∷ []) c.in-Read.into c.in-Read.size) c.read.result c.stop-in-Read.result refl c.stop-in-Read.ensures c.read.ensures.post c.read.ensures.means
-    (of_listed c.args.graph.now c.requires.may.fits.regions (λ kind. FaultsReading c.in-Read.at c.in-Read.size kind) c.read.result c.read.ensures.listed)
+    (of_listed c.args.graph.now (λ kind. FaultsReading c.in-Read.at c.in-Read.size kind) c.read.result c.read.ensures.listed)
 
 pub returns-in-Write-clause-means : goal.returns-in-Write-clause-means
 returns-in-Write-clause-means c =
     stopped_access c.args.flow.now c.args.point c.args.instr.now (Write c.in-Write.at c.in-Write.from c.in-Write.size) c.args.graph.now c.in-Write.is (WriteTail c.args.graph.now (c.in-Write.at ∷ c.in-Write.from ∷ [])) c.write.result c.stop-in-Write.result refl c.stop-in-Write.ensures c.write.ensures.post c.write.ensures.means
-    (of_listed c.args.graph.now c.requires.may.fits.regions (λ kind. FaultsWriting c.in-Write.at c.in-Write.size c.in-Write.from kind) c.write.result c.write.ensures.listed)
+    (of_listed c.args.graph.now (λ kind. FaultsWriting c.in-Write.at c.in-Write.size c.in-Write.from kind) c.write.result c.write.ensures.listed)
 
 pub returns-in-Shift-clause-means : goal.returns-in-Shift-clause-means
 returns-in-Shift-clause-means c =
@@ -119,12 +117,12 @@ returns-in-AllocateNone-clause-means c = refuse_step c.args.flow.now c.args.poin
 pub returns-in-Fill-clause-means : goal.returns-in-Fill-clause-means
 returns-in-Fill-clause-means c =
     plain_access c.args.flow.now c.args.point c.args.instr.now (Fill c.in-Fill.at c.in-Fill.from c.in-Fill.length) c.args.graph.now c.in-Fill.is (WriteTail c.args.graph.now (c.in-Fill.at ∷ c.in-Fill.from ∷ [])) c.fill.result refl c.fill.ensures.post c.fill.ensures.means
-    (of_listed c.args.graph.now c.requires.may.fits.regions (λ kind. FaultsFilling c.in-Fill.at c.in-Fill.from c.in-Fill.length kind) c.fill.result c.fill.ensures.listed)
+    (of_listed c.args.graph.now (λ kind. FaultsFilling c.in-Fill.at c.in-Fill.from c.in-Fill.length kind) c.fill.result c.fill.ensures.listed)
 
 pub returns-in-Copy-clause-means : goal.returns-in-Copy-clause-means
 returns-in-Copy-clause-means c =
     plain_access c.args.flow.now c.args.point c.args.instr.now (Copy c.in-Copy.to c.in-Copy.from c.in-Copy.length c.in-Copy.disjoint) c.args.graph.now c.in-Copy.is (WriteTail c.args.graph.now (c.in-Copy.to ∷ c.in-Copy.from ∷ [])) c.copy.result refl c.copy.ensures.post c.copy.ensures.means
-    (of_copied c.args.graph.now c.requires.may.fits.regions c.in-Copy.to c.in-Copy.from c.in-Copy.length c.in-Copy.disjoint c.copy.result c.copy.ensures.listed)
+    (of_copied c.args.graph.now c.in-Copy.to c.in-Copy.from c.in-Copy.length c.in-Copy.disjoint c.copy.result c.copy.ensures.listed)
 
 pub returns-in-Leave-clause-means : goal.returns-in-Leave-clause-means
 returns-in-Leave-clause-means c =
@@ -134,7 +132,7 @@ pub returns-in-Finish-clause-means : goal.returns-in-Finish-clause-means
 returns-in-Finish-clause-means c = finish_step c.args.flow.now c.args.point c.args.instr.now c.args.graph.now c.in-Finish.registers c.finish.result c.in-Finish.is c.finish.ensures.post c.finish.ensures.sound c.finish.ensures.exact c.finish.ensures.kinds
 
 pub returns-in-Close-clause-means : goal.returns-in-Close-clause-means
-returns-in-Close-clause-means c = plain_step c.args.flow.now c.args.point c.args.instr.now Close c.args.graph.now c.in-Close.is (λ after. after ≡ c.args.graph.now) c.close.result refl refl c.close.ensures.post c.close.ensures.means
+returns-in-Close-clause-means c = end_step c.args.flow.now c.args.point c.args.instr.now c.args.graph.now c.in-Close.is c.end.result c.end.ensures.means
 
 pub release-requires : goal.release-requires
 release-requires c = record { address = release_ready c.args.flow.now c.args.point c.args.instr.now c.args.graph.now c.requires.may c.value_count.ensures.graph c.in-Release.at c.in-Release.is }
@@ -239,4 +237,4 @@ returns-in-Finish-clause-fits c =
 
 pub returns-in-Close-clause-fits : goal.returns-in-Close-clause-fits
 returns-in-Close-clause-fits c =
-    close_fit c.args.flow.now c.args.point c.args.instr.now c.args.graph.now c.requires.may c.value_count.ensures.graph _ _ c.in-Close.is c.close.result c.close.ensures.post c.close.ensures.means
+    close_fit c.args.flow.now c.args.point c.args.instr.now c.args.graph.now c.requires.may c.value_count.ensures.graph c.in-Close.is c.end.result c.end.ensures.post
