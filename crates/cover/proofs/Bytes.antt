@@ -16,7 +16,7 @@ use Rattle.graph.specs.Meaning.{HasClass, HaveClasses, HoldsWord, HoldEdges}
 use Rattle.cover.specs.declared.content.Content.TheVariants.{Fixed}
 use Rattle.cover.specs.Covers.{content, Pairing, value_in, are_zeros, held_as, HasPartner}
 use Rattle.graph.specs.Meaning.{Maps}
-use Rattle.graph.specs.declared.object.Object.{Object}
+use Rattle.graph.specs.declared.template.Node.{Node}
 use Rattle.graph.proofs.Tests.{and_left, and_right}
 
 -- a byte of a class has each class above
@@ -102,7 +102,7 @@ zeros-hold plane bytes edge small zeros have =
     ∙ sym (zero_word edge.size small)
 
 -- an edge at the same place whose value is paired
-pub record IsMatched (narrow : Maps) (pairing : Pairing) (other : Object) (edge : HasValue) : Type 0 where
+pub record IsMatched (narrow : Maps) (pairing : Pairing) (other : Node) (edge : HasValue) : Type 0 where
   pub with : HasValue
   pub stands : Contains other.edges with
   pub at : with.at ≡ edge.at
@@ -110,7 +110,7 @@ pub record IsMatched (narrow : Maps) (pairing : Pairing) (other : Object) (edge 
   pub paired : pairing.value edge.value ≡ Some (content narrow with.value)
 
 -- zeros, which are paired as the constant 0
-pub record IsOfZeros (pairing : Pairing) (other : Object) (edge : HasValue) : Type 0 where
+pub record IsOfZeros (pairing : Pairing) (other : Node) (edge : HasValue) : Type 0 where
   pub zeros : take edge.size (drop edge.at other.plane) ≡ replicate edge.size 0
   pub paired : pairing.value edge.value ≡ Some (Fixed 0 edge.size)
 
@@ -146,7 +146,7 @@ edge-in (edge ∷ rest) at size value is = by_cases (nat_eq edge.at at && nat_eq
         let within = found.stands.1 in
         record { with = found.with; stands = (suc found.stands.0, omega arith, found.stands.2); at_is = found.at_is; size_is = found.size_is; value_is = found.value_is }
 
-pub partner-cases : (narrow : Maps) (pairing : Pairing) (other : Object) (edge : HasValue) → HasPartner narrow pairing other edge → IsMatched narrow pairing other edge ⊎ IsOfZeros pairing other edge
+pub partner-cases : (narrow : Maps) (pairing : Pairing) (other : Node) (edge : HasValue) → HasPartner narrow pairing other edge → IsMatched narrow pairing other edge ⊎ IsOfZeros pairing other edge
 partner-cases narrow pairing other edge has = by_value (value_in other.edges edge.at edge.size) refl has.held
   where
     by_zeros : (zeros : Bool) → are_zeros edge.size (drop edge.at other.plane) ≡ zeros → (if zeros then Some (Fixed 0 edge.size) else None) ≡ Some has.with → IsOfZeros pairing other edge

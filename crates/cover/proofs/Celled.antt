@@ -1,5 +1,5 @@
 -- A graph holds in its cells what each graph holds there that it covers.
-use Rattle.std.proofs.Common.{◌≡◌, ℕ, zero, suc, Bool, true, false, ◌&&◌, List, [], ◌∷◌, ◌++◌, Option, None, Some, refl, sym, ◌∙◌, ap, subst, nat_eq, eqb-true, append-nil, append_assoc}
+use Rattle.std.proofs.Common.{◌≡◌, ℕ, suc, Bool, true, false, ◌&&◌, List, [], ◌∷◌, ◌++◌, Option, None, Some, refl, sym, ◌∙◌, ap, subst, nat_eq, eqb-true, append_assoc}
 use Rattle.std.specs.Prelude.{option_map, slice_get, if◌then◌else◌}
 use Rattle.std.specs.List.{All}
 use Rattle.std.specs.Option.{option_map_or}
@@ -8,23 +8,24 @@ use Rattle.std.proofs.lemmas.List.Elements.{All-head, All-tail}
 use Rattle.std.proofs.lemmas.Option.{same_Some, none-some}
 use Rattle.graph.specs.declared.edges.HasValue.{HasValue}
 use Rattle.graph.specs.declared.object.Object.{Object}
+use Rattle.graph.specs.declared.template.Node.{Node}
 use Rattle.graph.specs.declared.parts.Named.{Named}
 use Rattle.graph.specs.declared.parts.Parts.{Parts}
 use Rattle.graph.specs.declared.value.Value.{Value}
 use Rattle.graph.specs.declared.value.Value.TheVariants.{Const, Number, Any, Address}
 use Rattle.graph.specs.Maps.{object_at, value_at, storage_of}
 use Rattle.graph.specs.Meaning.{Maps, maps_of}
+use Rattle.graph.specs.Nodes.{node_of}
 use Rattle.graph.specs.Whole.{IsGraph}
 use Rattle.graph.specs.WellFormed.{is_storage}
 use Rattle.graph.proofs.Found.{found-all}
 use Rattle.graph.proofs.Tests.{and_left, and_right}
 use Rattle.cover.specs.declared.cells.Cell.{Cell}
 use Rattle.cover.specs.declared.content.Content.{Content}
-use Rattle.cover.specs.declared.content.Content.TheVariants.{Fixed, Leads, Kept}
+use Rattle.cover.specs.declared.content.Content.TheVariants.{Fixed}
 use Rattle.cover.specs.Covers.{content, content_of, value_in, held_in, held_as, Pairing, Fits, HasPartner, IsCover, Covers}
 use Rattle.cover.specs.Cells.{is_constant, holds_constant, is_cell, cell_at, PutsCell, cells_of_edges, cells_of_object, cells_of_variables, constant_cells, held_of, held_behind, held_at, mixed_with, goes_on, print_from, fingerprint}
 use Rattle.cover.proofs.Keyed.{found-place}
-use Rattle.cover.proofs.Bytes.{IsEdgeIn, edge-in}
 
 -- where a constant is held in the object of a variable
 pub record IsCellOf (parts : Parts) (cell : Cell) : Type 0 where
@@ -35,7 +36,7 @@ pub record IsCellOf (parts : Parts) (cell : Cell) : Type 0 where
   pub size : ℕ
   pub named : storage_of parts.variables cell.variable ≡ Some key
   pub stands : object_at parts.objects key ≡ Some object
-  pub held : value_in object.edges cell.at cell.size ≡ Some value
+  pub held : value_in (node_of object).edges cell.at cell.size ≡ Some value
   pub constant : value_at parts.values value ≡ Some (Const number size)
 
 abbrev pub AreCellsOf : Parts → List Cell → Type 0
@@ -65,9 +66,9 @@ constant-at parts key is = by_value (value_at parts.values key) refl is
 cell-of : (parts : Parts) (key : ℕ) (object : Object) (variable : ℕ) (edge : HasValue) → storage_of parts.variables variable ≡ Some key → object_at parts.objects key ≡ Some object →
     is_cell (maps_of parts) object edge ≡ true → IsCellOf parts (cell_at variable edge)
 cell-of parts key object variable edge named stands is =
-    by_value (value_in object.edges edge.at edge.size) refl (and_right _ (holds_constant (maps_of parts) (value_in object.edges edge.at edge.size)) is)
+    by_value (value_in (node_of object).edges edge.at edge.size) refl (and_right _ (holds_constant (maps_of parts) (value_in (node_of object).edges edge.at edge.size)) is)
   where
-    by_value : (value : Option ℕ) → value_in object.edges edge.at edge.size ≡ value → holds_constant (maps_of parts) value ≡ true → IsCellOf parts (cell_at variable edge)
+    by_value : (value : Option ℕ) → value_in (node_of object).edges edge.at edge.size ≡ value → holds_constant (maps_of parts) value ≡ true → IsCellOf parts (cell_at variable edge)
     by_value None there holds = absurd (false≢true holds)
     by_value (Some value) there holds =
         let constant = constant-at parts value holds in
@@ -92,7 +93,7 @@ cells-of-variables parts (named ∷ rest) each =
   where
     by_object : (object : Option Object) → object_at parts.objects named.object ≡ object → AreCellsOf parts (cells_of_object (maps_of parts) named.variable object)
     by_object None there = tt
-    by_object (Some object) there = cells-of-edges parts named.object object named.variable object.edges (each 0 named refl) there
+    by_object (Some object) there = cells-of-edges parts named.object object named.variable (node_of object).edges (each 0 named refl) there
 
 pub are-cells : (parts : Parts) → IsGraph parts → AreCellsOf parts (constant_cells parts)
 are-cells parts graph = cells-of-variables parts parts.variables
@@ -103,7 +104,7 @@ content-is : (parts : Parts) (cell : Cell) (is : IsCellOf parts cell) → held_a
 content-is parts cell is =
     ap (held_behind (maps_of parts) cell) is.named
     ∙ (ap (held_of (maps_of parts) cell) is.stands
-    ∙ (ap (held_as (maps_of parts) is.object.plane cell.at cell.size) is.held
+    ∙ (ap (held_as (maps_of parts) (node_of is.object).plane cell.at cell.size) is.held
     ∙ ap (λ (value : Option Value). Some (content_of is.value value)) is.constant))
 
 print-on : (parts : Parts) (cells : List Cell) → AreCellsOf parts cells → (print : ℕ) → print_from (maps_of parts) cells print ≡ None → ⊥
@@ -116,7 +117,7 @@ has_fingerprint parts graph none = print-on parts (constant_cells parts) (are-ce
 
 -- what it covers holds the same ones
 module _ (wide narrow : Parts) (wide_is : IsGraph wide) (narrow_is : IsGraph narrow) (p : Pairing) (cover : IsCover (maps_of wide) (maps_of narrow) p) where
-  record IsHeldPair (other : Object) (at size value : ℕ) : Type 0 where
+  record IsHeldPair (other : Node) (at size value : ℕ) : Type 0 where
     with : Content
     held : held_in (maps_of narrow) other at size ≡ Some with
     paired : p.value value ≡ Some with
@@ -126,7 +127,7 @@ module _ (wide narrow : Parts) (wide_is : IsGraph wide) (narrow_is : IsGraph nar
       let at = cover.values key held paired in
       subst (λ (value : Value). Fits (maps_of narrow) p value held) (same_Some _ _ (sym at.stands ∙ constant)) at.fits
 
-  held-pair : (other : Object) (edges : List HasValue) (at size value : ℕ) → All (HasPartner (maps_of narrow) p other) edges → value_in edges at size ≡ Some value → IsHeldPair other at size value
+  held-pair : (other : Node) (edges : List HasValue) (at size value : ℕ) → All (HasPartner (maps_of narrow) p other) edges → value_in edges at size ≡ Some value → IsHeldPair other at size value
   held-pair other [] at size value all is = absurd (none-some value is)
   held-pair other (edge ∷ rest) at size value all is =
       by_test (nat_eq edge.at at && nat_eq edge.size size) refl is (λ later. held-pair other rest at size value (All-tail (HasPartner (maps_of narrow) p other) edge rest all) later)
@@ -162,8 +163,8 @@ module _ (wide narrow : Parts) (wide_is : IsGraph wide) (narrow_is : IsGraph nar
       let pair = cover.objects is.key found.0 found.2 in
       let same : pair.one ≡ is.object = same_Some _ _ (sym pair.one_stands ∙ is.stands) in
       let alive = lives cell.variable is.key pair.one is.named pair.one_stands in
-      let held = held-pair pair.other pair.one.edges cell.at cell.size is.value (pair.alike.alike alive).edges
-      (subst (λ (object : Object). value_in object.edges cell.at cell.size ≡ Some is.value) (sym same) is.held) in
+      let held = held-pair (node_of pair.other) (node_of pair.one).edges cell.at cell.size is.value (pair.alike.alike alive).edges
+      (subst (λ (object : Object). value_in (node_of object).edges cell.at cell.size ≡ Some is.value) (sym same) is.held) in
       ap (held_behind (maps_of narrow) cell) found.1
       ∙ (ap (held_of (maps_of narrow) cell) pair.other_stands
       ∙ (held.held ∙ ap (λ (content : Content). Some content) (fixed-pair is.value is.number is.size held.with is.constant held.paired)))

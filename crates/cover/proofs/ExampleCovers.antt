@@ -7,6 +7,7 @@ use Rattle.graph.specs.declared.object.Object.{Object}
 use Rattle.graph.specs.declared.value.Value.TheVariants.{Number}
 use Rattle.graph.specs.Maps.{object_at, storage_of}
 use Rattle.graph.specs.Meaning.{maps_of}
+use Rattle.graph.specs.Nodes.{node_of}
 use Rattle.cover.specs.declared.content.Content.{Content}
 use Rattle.cover.specs.declared.content.Content.TheVariants.{Fixed, Leads, Kept}
 use Rattle.cover.specs.Covers.{content, Pairing, ArePaired, Fits, FitsAt, HasPartner, IsReached, ByVariable, ByEdge, Link, Objects, Values, IsIn, Covers, StandsIn, IsAddress}
@@ -44,13 +45,13 @@ paired zero with is = subst (ArePaired (maps_of any_number) (maps_of five) pairi
   alike = record {
     live = refl;
     kind = refl;
-    region = refl;
-    other_region = refl;
+    links = tt;
+    ends = λ links other_links is other_is. absurd (none-some links is);
     alike = λ live. record { size = refl; classes = refl; edges = edges; addresses = addresses };
   };
 })
   where
-    edges : (k : ℕ) (d : HasValue) → k < length holder.edges → HasPartner (maps_of five) pairing holder (get_or holder.edges k d)
+    edges : (k : ℕ) (d : HasValue) → k < length holder.edges → HasPartner (maps_of five) pairing (node_of holder) (get_or holder.edges k d)
     edges zero d within = record { with = Fixed 5 4; held = refl; paired = refl }
     edges (suc k) d within = absurd (omega arith)
 

@@ -18,7 +18,7 @@ use Rattle.graph.proofs.Completed.{IsWideNumber, pair_at, numbers_are_completed}
 use Rattle.cover.specs.declared.content.Content.{Content}
 use Rattle.cover.specs.declared.content.Content.TheVariants.{Fixed, Leads, Kept}
 use Rattle.cover.specs.Covers.{content, Pairing, Fits, known, known_of, IsApart, AreApart, DifferFixed, IsPairOf, IsCover, Covers}
-use Rattle.cover.proofs.Stood.{word_of, word_as, blocks, ends, word, content_word, stood, chosen_given}
+use Rattle.cover.proofs.Stood.{word_of, word_as, blocks, beyond, ends, word, content_word, stood, chosen_given}
 
 abbrev number_in : Word → ℕ
 number_in (Plain number) = number
@@ -145,7 +145,7 @@ module _ (wide narrow : Parts) (wide_is : IsWellFormed wide) (limits : IsTrue (i
     words = word wide narrow wide_is covers state given meets number
 
     abbrev word_by : ℕ → Option Content → Option Value → Word
-    word_by key paired found = word_as (ends wide narrow wide_is covers state given meets) given (blocks wide narrow wide_is covers state given meets) (number key) paired found
+    word_by key paired found = word_as (ends wide narrow wide_is covers state given meets) given (blocks wide narrow wide_is covers state given meets) (beyond wide narrow wide_is covers state given meets) (number key) paired found
 
     -- a value of a pair has the word of its number
     number_word : (key : ℕ) (value : Value) → value_at wide.values key ≡ Some value → IsWideNumber value → words key ≡ Plain (number key)

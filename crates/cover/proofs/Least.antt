@@ -7,9 +7,10 @@ use Rattle.std.proofs.lemmas.Option.{same_Some, none-some}
 use Rattle.graph.specs.declared.object.Object.{Object}
 use Rattle.graph.specs.declared.value.Value.{Value}
 use Rattle.graph.specs.Meaning.{Maps}
+use Rattle.graph.specs.Nodes.{node_of}
 use Rattle.cover.specs.declared.content.Content.{Content}
 use Rattle.cover.specs.declared.content.Content.TheVariants.{Fixed, Leads, Kept}
-use Rattle.cover.specs.Covers.{content, Pairing, Fits, FitsAt, HasPartner, IsAs, ArePaired, IsCover, Link, Objects, Values, IsReached, ByVariable, ByRegister, ByPort, ByEdge, ByAddress, IsIn}
+use Rattle.cover.specs.Covers.{content, Pairing, Fits, FitsAt, HasPartner, IsAs, ArePaired, IsCover, Link, Objects, Values, IsReached, ByVariable, ByRegister, ByPort, ByEdge, ByNext, ByPrev, ByAddress, IsIn}
 
 pub all-at : {X : Type 0} (P : X → Type 0) (xs : List X) (x : X) → Contains xs x → All P xs → P x
 all-at P xs x (place, within, is) all = subst P is (all place x within)
@@ -36,6 +37,11 @@ module _ (wide narrow : Maps) (p : Pairing) (cover : IsCover wide narrow p) wher
       rest_of [] = []
       rest_of (c ∷ cs) = cs
 
+  alike-at : (one other : ℕ) (object with : Object) → ArePaired wide narrow p one other → wide.objects one ≡ Some object → narrow.objects other ≡ Some with → IsAs narrow p object with
+  alike-at one other object with pair one_is other_is =
+      subst (λ (o : Object). IsAs narrow p o with) (same_Some _ _ (sym pair.one_stands ∙ one_is))
+      (subst (λ (o : Object). IsAs narrow p pair.one o) (same_Some _ _ (sym pair.other_stands ∙ other_is)) pair.alike)
+
   -- all that is reached is paired
   pub reached-in : (link : Link) → IsReached wide narrow link → IsIn p link
   reached-in link (ByVariable variable one other one_is other_is) =
@@ -44,12 +50,13 @@ module _ (wide narrow : Maps) (p : Pairing) (cover : IsCover wide narrow p) wher
       same_Some _ _ (sym (ap (option_map p.value) one_is) ∙ cover.registers register ∙ ap (option_map (λ key. Some (content narrow key))) other_is)
   reached-in link (ByPort place one other one_is other_is) = port-in wide.ports narrow.ports place one other cover.ports one_is other_is
   reached-in link (ByEdge one other object with edge holds before one_is other_is live among held) =
-      let pair = cover.objects one other (reached-in (Objects one other) before) in
-      let same = same_Some _ _ (sym pair.one_stands ∙ one_is) in
-      let same_other = same_Some _ _ (sym pair.other_stands ∙ other_is) in
-      let like = subst (λ (o : Object). IsAs narrow p o with) same (subst (λ (o : Object). IsAs narrow p pair.one o) same_other pair.alike) in
-      let has = all-at (HasPartner narrow p with) object.edges edge among (like.alike live).edges in
+      let like = alike-at one other object with (cover.objects one other (reached-in (Objects one other) before)) one_is other_is in
+      let has = all-at (HasPartner narrow p (node_of with)) (node_of object).edges edge among (like.alike live).edges in
       has.paired ∙ sym has.held ∙ held
+  reached-in link (ByNext one other object with links other_links before one_is other_is links_is other_links_is) =
+      ((alike-at one other object with (cover.objects one other (reached-in (Objects one other) before)) one_is other_is).ends links other_links links_is other_links_is).next
+  reached-in link (ByPrev one other object with links other_links before one_is other_is links_is other_links_is) =
+      ((alike-at one other object with (cover.objects one other (reached-in (Objects one other) before)) one_is other_is).ends links other_links links_is other_links_is).prev
   reached-in link (ByAddress key one other offset offset' target target' before is) =
       let at = cover.values key (Leads other offset target) (reached-in (Values key (Leads other offset target)) before) in
       let fits = subst (λ (v : Value). Fits narrow p v (Leads other offset target)) (same_Some _ _ (sym at.stands ∙ is)) at.fits in

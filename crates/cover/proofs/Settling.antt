@@ -33,7 +33,7 @@ module _ (wide narrow : Maps) (found : Found) (finished : IsFinished wide narrow
         same_Some _ _ (sym (ap (option_map (pairing_of found).value) one_is) ∙ sym (slice_get-map (pairing_of found).value wide.ports place)
         ∙ ap (λ (list : List (Option Content)). slice_get list place) finished.ports ∙ slice_get-map (λ key. Some (content narrow key)) narrow.ports place
         ∙ ap (option_map (λ key. Some (content narrow key))) other_is);
-    edges = λ one other object with is one_is with_is live. finished.linked one other object with is one_is with_is live;
+    objects = finished.linked;
   }
 
   pub is-found : (link : Link) → IsReached wide narrow link → IsIn (pairing_of found) link
@@ -108,8 +108,7 @@ module _ (wide narrow : Maps) (found : Found) (finished : IsFinished wide narrow
       looks one other is = record {
         live = is.live;
         kind = is.kind;
-        region = is.region;
-        other_region = is.other_region;
+        links = is.links;
         size = λ live. (is.alike live).size;
         classes = λ live. (is.alike live).classes;
         addresses = λ live. (is.alike live).addresses;

@@ -16,6 +16,7 @@ use Rattle.graph.specs.declared.value.Value.{Value}
 use Rattle.graph.specs.declared.value.Value.TheVariants.{Const, Number, Any, Address}
 use Rattle.graph.specs.Maps.{object_at, storage_of, held_by}
 use Rattle.graph.specs.Meaning.{Maps, maps_of}
+use Rattle.graph.specs.Nodes.{node_of}
 use Rattle.graph.specs.Whole.{IsGraph}
 use Rattle.graph.specs.WellFormed.{is_storage}
 use Rattle.graph.proofs.Found.{found-all}
@@ -65,16 +66,16 @@ module _ (wide narrow : Parts) (wide_is : IsGraph wide) (narrow_is : IsGraph nar
       let at = cover.values key held paired in
       subst (λ (v : Option Value). may_fit v (Some held) ≡ true) (sym at.stands) (fits at.value held at.fits)
 
-  met : (other : Object) (edges : List HasValue) → All (HasPartner two p other) edges → are_met one two other edges ≡ true
+  met : (other : Object) (edges : List HasValue) → All (HasPartner two p (node_of other)) edges → are_met one two other edges ≡ true
   met other [] all = refl
   met other (edge ∷ edges) all =
-      let partner = All-head (HasPartner two p other) edge edges all in
-      and_both (may_fit (one.values edge.value) (held_in two other edge.at edge.size)) (are_met one two other edges)
+      let partner = All-head (HasPartner two p (node_of other)) edge edges all in
+      and_both (may_fit (one.values edge.value) (held_in two (node_of other) edge.at edge.size)) (are_met one two other edges)
       (subst (λ (held : Option Content). may_fit (one.values edge.value) held ≡ true) (sym partner.held) (value-fits edge.value partner.with partner.paired))
-      (met other edges (All-tail (HasPartner two p other) edge edges all))
+      (met other edges (All-tail (HasPartner two p (node_of other)) edge edges all))
 
   live-paired : (first second : Object) → IsLiveAs two p first second → may_be_paired one two (Some first) (Some second) ≡ true
-  live-paired first second alike = and_both (are_at_most second.plane first.plane) (are_met one two second first.edges) alike.classes (met second first.edges alike.edges)
+  live-paired first second alike = and_both (are_at_most (node_of second).plane (node_of first).plane) (are_met one two second (node_of first).edges) alike.classes (met second (node_of first).edges alike.edges)
 
   -- the object of a variable lives
   lives : (variable key : ℕ) (object : Object) → storage_of wide.variables variable ≡ Some key → object_at wide.objects key ≡ Some object → object.live ≡ true

@@ -8,12 +8,13 @@ use Rattle.std.proofs.lemmas.Option.{same_Some, none-some}
 use Rattle.graph.specs.declared.object.Object.{Object}
 use Rattle.graph.specs.declared.parts.Parts.{Parts}
 use Rattle.graph.specs.Meaning.{Maps, maps_of}
+use Rattle.graph.specs.Nodes.{node_of}
 use Rattle.graph.specs.Whole.{IsGraph}
 use Rattle.cover.specs.declared.content.Content.{Content}
 use Rattle.cover.specs.declared.content.Content.TheVariants.{Kept}
 use Rattle.cover.specs.declared.found.Found.{Found}
 use Rattle.cover.specs.Covers.{content, Pairing, HasPartner, ArePaired, AreLivePaired, IsApart, known, IsCover, IsLeast, Covers, Link, IsReached, Objects, Values, IsIn, AreVariablesPaired, AreRegistersPaired, ArePortsPaired}
-use Rattle.cover.specs.Found.{pairing_of, IsSound, Grows, IsNone, IsLinked, Settles, LinksAll}
+use Rattle.cover.specs.Found.{pairing_of, IsSound, Grows, IsNone, IsLinked, Settles, FollowsAll}
 use Rattle.cover.specs.Checked.{IsUncovered, IsFinished, Finishes, Settled, AreFitting, AreAlike, AreApartKept, ArePairsApart}
 use Rattle.cover.proofs.Alone.{all_alone}
 use Rattle.cover.proofs.Living.{object-past, value-past}
@@ -64,7 +65,7 @@ unsettled-finishes wide narrow clause before after fine settles not_fine = none-
 
 pub all-finishes : (wide narrow : Maps) (start one two three four : Found) (a b c d : Bool) →
     Settles wide narrow (AreVariablesPaired wide narrow) start one a → a ≡ true → Settles wide narrow (AreRegistersPaired wide narrow) one two b → b ≡ true →
-    Settles wide narrow (ArePortsPaired wide narrow) two three c → c ≡ true → LinksAll wide narrow three four d → Finishes wide narrow four d
+    Settles wide narrow (ArePortsPaired wide narrow) two three c → c ≡ true → FollowsAll wide narrow three four d → Finishes wide narrow four d
 all-finishes wide narrow start one two three four a b c d variables a_is registers b_is ports c_is links = record {
   finished = λ d_is. record {
     sound = links.sound;
@@ -152,18 +153,18 @@ module _ (wide narrow : Parts) (found : Found) where
           alike = record {
             live = at.alike.live;
             kind = at.alike.kind;
-            region = at.alike.region;
-            other_region = at.alike.other_region;
+            links = at.alike.links;
+            ends = (finished.linked key with at.one at.other is at.one_stands at.other_stands).ends;
             alike = λ lives. record {
               size = at.alike.size lives;
               classes = at.alike.classes lives;
-              edges = edges at.one at.other (finished.linked key with at.one at.other is at.one_stands at.other_stands lives);
+              edges = edges at.one at.other ((finished.linked key with at.one at.other is at.one_stands at.other_stands).edges lives);
               addresses = at.alike.addresses lives;
             };
           };
         }
           where
-            edges : (x y : Object) → All (IsLinked two found y) x.edges → All (HasPartner two (pairing_of found) y) x.edges
+            edges : (x y : Object) → All (IsLinked two found (node_of y)) (node_of x).edges → All (HasPartner two (pairing_of found) (node_of y)) (node_of x).edges
             edges x y linked k d within = let link = linked k d within in record { with = link.holds; held = link.held; paired = link.stands }
 
         covers : ArePairsApart one two (pairing_of found) → Covers wide narrow

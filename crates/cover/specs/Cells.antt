@@ -6,6 +6,7 @@ use Rattle.graph.specs.declared.object.Object.{Object}
 use Rattle.graph.specs.declared.parts.Named.{Named}
 use Rattle.graph.specs.declared.parts.Parts.{Parts}
 use Rattle.graph.specs.Meaning.{Maps, maps_of}
+use Rattle.graph.specs.Nodes.{node_of}
 use Rattle.cover.specs.declared.cells.Cell.{Cell}
 use Rattle.cover.specs.declared.content.Content.{Content}
 use Rattle.cover.specs.declared.content.Content.TheVariants.{Fixed, Leads, Kept}
@@ -23,7 +24,7 @@ holds_constant maps (Some key) = is_constant (content maps key)
 
 -- among the first 64 bytes of an object, where an edge holds a constant
 abbrev pub is_cell : Maps → Object → HasValue → Bool
-is_cell maps object edge = nat_lt edge.at 64 && holds_constant maps (value_in object.edges edge.at edge.size)
+is_cell maps object edge = nat_lt edge.at 64 && holds_constant maps (value_in (node_of object).edges edge.at edge.size)
 
 abbrev pub cell_at : ℕ → HasValue → Cell
 cell_at variable edge = record { variable = variable; at = edge.at; size = edge.size }
@@ -39,7 +40,7 @@ pub record PutsCell (maps : Maps) (object : Object) (variable : ℕ) (edge : Has
 
 abbrev pub cells_of_object : Maps → ℕ → Option Object → List Cell
 cells_of_object maps variable None = []
-cells_of_object maps variable (Some object) = cells_of_edges maps object variable object.edges
+cells_of_object maps variable (Some object) = cells_of_edges maps object variable (node_of object).edges
 
 abbrev pub cells_of_variables : Maps → List Named → List Cell
 cells_of_variables maps [] = []
@@ -52,7 +53,7 @@ constant_cells parts = cells_of_variables (maps_of parts) parts.variables
 -- what a graph holds in a cell
 abbrev pub held_of : Maps → Cell → Option Object → Option Content
 held_of maps cell None = None
-held_of maps cell (Some object) = held_in maps object cell.at cell.size
+held_of maps cell (Some object) = held_in maps (node_of object) cell.at cell.size
 
 abbrev pub held_behind : Maps → Cell → Option ℕ → Option Content
 held_behind maps cell None = None

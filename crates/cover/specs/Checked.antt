@@ -2,15 +2,15 @@
 use Rattle.std.specs.Prelude.{◌≡◌, ℕ, ◌<◌, Bool, true, false, List, length, Option, None, Some, slice_get, slice_index_or}
 use Rattle.graph.specs.declared.edges.HasValue.{HasValue}
 use Rattle.graph.specs.declared.object.Object.{Object}
-use Rattle.graph.specs.declared.object.Shape.TheVariants.{Region}
 use Rattle.graph.specs.declared.parts.Pair.{Pair}
 use Rattle.graph.specs.Meaning.{Maps}
+use Rattle.graph.specs.Nodes.{links_in, node_of}
 use Rattle.planes.specs.Lanes.{are_at_most}
 use Rattle.cover.specs.declared.content.Content.{Content}
 use Rattle.cover.specs.declared.content.Content.TheVariants.{Fixed, Leads, Kept}
 use Rattle.cover.specs.declared.found.Found.{Found}
-use Rattle.cover.specs.Covers.{content, Pairing, Values, Objects, IsIn, IsCover, IsLeast, FitsAt, StandsIn, IsAddress, IsApart, IsPairOf, known, AreVariablesPaired, AreRegistersPaired, ArePortsPaired}
-use Rattle.cover.specs.Found.{pairing_of, IsSound, AreEdgesLinked}
+use Rattle.cover.specs.Covers.{content, Pairing, Values, Objects, IsIn, IsCover, IsLeast, FitsAt, StandsIn, IsAddress, IsApart, IsPairOf, AreLinksAlike, known, AreVariablesPaired, AreRegistersPaired, ArePortsPaired}
+use Rattle.cover.specs.Found.{pairing_of, IsSound, IsFollowed}
 
 -- nothing covers
 pub record IsUncovered (wide narrow : Maps) : Type 0 where
@@ -22,7 +22,7 @@ pub record IsFinished (wide narrow : Maps) (found : Found) : Type 0 where
   pub variables : AreVariablesPaired wide narrow (pairing_of found)
   pub registers : AreRegistersPaired wide narrow (pairing_of found)
   pub ports : ArePortsPaired wide narrow (pairing_of found)
-  pub linked : (one : ℕ) → AreEdgesLinked wide narrow found one
+  pub linked : (one : ℕ) → IsFollowed wide narrow found one
 
 -- it is, or nothing covers
 pub record Finishes (wide narrow : Maps) (found : Found) (fine : Bool) : Type 0 where
@@ -54,15 +54,14 @@ HaveAddresses narrow ones others = (place : ℕ) (edge : HasValue) → slice_get
 abbrev pub HaveSomeAddresses : Maps → List HasValue → List HasValue → ℕ → Type 0
 HaveSomeAddresses narrow ones others at = (place : ℕ) (edge : HasValue) → place < at → slice_get others place ≡ Some edge → StandsIfAddress narrow ones edge
 
--- two objects look alike: what is asked of them but for the values of their edges
+-- two objects look alike: what is asked of them but for the values that they name
 pub record LooksAlike (narrow : Maps) (one other : Object) : Type 0 where
   pub live : other.live ≡ one.live
   pub kind : other.kind ≡ one.kind
-  pub region : one.shape ≡ Region
-  pub other_region : other.shape ≡ Region
+  pub links : AreLinksAlike (links_in one.shape) (links_in other.shape)
   pub size : one.live ≡ true → other.size ≡ one.size
-  pub classes : one.live ≡ true → are_at_most other.plane one.plane ≡ true
-  pub addresses : one.live ≡ true → HaveAddresses narrow one.edges other.edges
+  pub classes : one.live ≡ true → are_at_most (node_of other).plane (node_of one).plane ≡ true
+  pub addresses : one.live ≡ true → HaveAddresses narrow (node_of one).edges (node_of other).edges
 
 pub record LookAlikeAt (wide narrow : Maps) (key with : ℕ) : Type 0 where
   pub one : Object

@@ -1,18 +1,20 @@
 -- When one graph, the wider one, covers another one: what the wider one says of its objects and values holds of
 -- those of the other one with which they are paired.
-use Rattle.std.specs.Prelude.{◌≡◌, ◌⊎◌, ℕ, zero, suc, ◌^◌, ◌<◌, Bool, true, false, ◌&&◌, nat_eq, if◌then◌else◌, List, [], ◌∷◌, map, drop, ℤ, Option, None, Some, option_map, slice_get, Contains}
+use Rattle.std.specs.Prelude.{◌≡◌, ◌⊎◌, ℕ, zero, suc, ◌^◌, ◌<◌, ◌≤◌, Bool, true, false, ◌&&◌, nat_eq, if◌then◌else◌, List, [], ◌∷◌, map, drop, ℤ, Option, None, Some, option_map, slice_get, Contains}
 use Rattle.std.specs.List.{All}
 use Rattle.cover.specs.declared.content.Content.{Content}
 use Rattle.cover.specs.declared.content.Content.TheVariants.{Fixed, Leads, Kept}
 use Rattle.graph.specs.declared.edges.HasValue.{HasValue}
+use Rattle.graph.specs.declared.object.Links.{Links}
 use Rattle.graph.specs.declared.object.Object.{Object}
-use Rattle.graph.specs.declared.object.Shape.TheVariants.{Region}
 use Rattle.graph.specs.declared.value.Target.{Target}
 use Rattle.graph.specs.declared.value.Value.{Value}
 use Rattle.graph.specs.declared.value.Value.TheVariants.{Const, Number, Any, Address}
+use Rattle.graph.specs.declared.template.Node.{Node}
 use Rattle.graph.specs.declared.parts.Pair.{Pair}
 use Rattle.graph.specs.declared.parts.Parts.{Parts}
 use Rattle.graph.specs.Meaning.{Maps, maps_of}
+use Rattle.graph.specs.Nodes.{links_in, node_of}
 use Rattle.planes.specs.Lanes.{are_at_most}
 
 -- What a value of a graph is. Two keys may hold equal constants or addresses; a number and any word have a key of their own.
@@ -75,16 +77,16 @@ are_zeros zero plane = true
 are_zeros (suc count) [] = false
 are_zeros (suc count) (class ∷ plane) = nat_eq class 0 && are_zeros count plane
 
--- what the range of an object holds: the value of its edge, or zeros, which are the constant 0
+-- what a range of a block, or of a node, holds: the value of its edge, or zeros, which are the constant 0
 abbrev pub held_as : Maps → List ℕ → ℕ → ℕ → Option ℕ → Option Content
 held_as maps plane at size (Some key) = Some (content maps key)
 held_as maps plane at size None = if are_zeros size (drop at plane) then Some (Fixed 0 size) else None
 
-abbrev pub held_in : Maps → Object → ℕ → ℕ → Option Content
-held_in maps object at size = held_as maps object.plane at size (value_in object.edges at size)
+abbrev pub held_in : Maps → Node → ℕ → ℕ → Option Content
+held_in maps node at size = held_as maps node.plane at size (value_in node.edges at size)
 
--- the value of an edge is paired with what the other object holds there
-pub record HasPartner (narrow : Maps) (pairing : Pairing) (other : Object) (edge : HasValue) : Type 0 where
+-- the value of an edge is paired with what the other block, or node, holds there
+pub record HasPartner (narrow : Maps) (pairing : Pairing) (other : Node) (edge : HasValue) : Type 0 where
   pub with : Content
   pub held : held_in narrow other edge.at edge.size ≡ Some with
   pub paired : pairing.value edge.value ≡ Some with
@@ -103,19 +105,40 @@ IsAddress (Kept key) = ⊥
 
 -- Objects.
 
--- what is asked of two regions where they live
+-- the nodes of two segments are linked at the same places; the wider one need not have as many
+pub record AreLinkedAlike (one other : Links) : Type 0 where
+  pub twofold : other.twofold ≡ one.twofold
+  pub head : other.head ≡ one.head
+  pub next : other.next ≡ one.next
+  pub prev : other.prev ≡ one.prev
+  pub back : other.back ≡ one.back
+  pub least : one.least ≤ other.least
+
+-- both are regions, or both are segments whose nodes are linked alike
+abbrev pub AreLinksAlike : Option Links → Option Links → Type 0
+AreLinksAlike None None = Unit {0}
+AreLinksAlike None (Some other) = ⊥
+AreLinksAlike (Some one) None = ⊥
+AreLinksAlike (Some one) (Some other) = AreLinkedAlike one other
+
+-- what lies behind two segments is paired, and what lies before them
+pub record AreEndsPaired (narrow : Maps) (pairing : Pairing) (one other : Links) : Type 0 where
+  pub next : pairing.value one.next_value ≡ Some (content narrow other.next_value)
+  pub prev : pairing.value one.prev_value ≡ Some (content narrow other.prev_value)
+
+-- what is asked of what two objects that live say of the bytes of their blocks
 pub record IsLiveAs (narrow : Maps) (pairing : Pairing) (one other : Object) : Type 0 where
   pub size : other.size ≡ one.size
-  pub classes : are_at_most other.plane one.plane ≡ true
-  pub edges : All (HasPartner narrow pairing other) one.edges
-  pub addresses : (place : ℕ) (edge : HasValue) → slice_get other.edges place ≡ Some edge → IsAddress (content narrow edge.value) → StandsIn one.edges edge
+  pub classes : are_at_most (node_of other).plane (node_of one).plane ≡ true
+  pub edges : All (HasPartner narrow pairing (node_of other)) (node_of one).edges
+  pub addresses : (place : ℕ) (edge : HasValue) → slice_get (node_of other).edges place ≡ Some edge → IsAddress (content narrow edge.value) → StandsIn (node_of one).edges edge
 
--- both are regions: a segment is paired with nothing
+-- a region is paired with a region, and a segment with a segment
 pub record IsAs (narrow : Maps) (pairing : Pairing) (one other : Object) : Type 0 where
   pub live : other.live ≡ one.live
   pub kind : other.kind ≡ one.kind
-  pub region : one.shape ≡ Region
-  pub other_region : other.shape ≡ Region
+  pub links : AreLinksAlike (links_in one.shape) (links_in other.shape)
+  pub ends : (links other_links : Links) → links_in one.shape ≡ Some links → links_in other.shape ≡ Some other_links → AreEndsPaired narrow pairing links other_links
   pub alike : one.live ≡ true → IsLiveAs narrow pairing one other
 
 pub record ArePaired (wide narrow : Maps) (pairing : Pairing) (key with : ℕ) : Type 0 where
@@ -200,8 +223,12 @@ pub data IsReached (wide narrow : Maps) : Link → Type 0 where
   ByRegister : (register one other : ℕ) → wide.registers register ≡ Some one → narrow.registers register ≡ Some other → IsReached wide narrow (Values one (content narrow other))
   ByPort : (place one other : ℕ) → slice_get wide.ports place ≡ Some one → slice_get narrow.ports place ≡ Some other → IsReached wide narrow (Values one (content narrow other))
   ByEdge : (one other : ℕ) (object with : Object) (edge : HasValue) (holds : Content) → IsReached wide narrow (Objects one other) →
-      wide.objects one ≡ Some object → narrow.objects other ≡ Some with → object.live ≡ true → Contains object.edges edge → held_in narrow with edge.at edge.size ≡ Some holds →
+      wide.objects one ≡ Some object → narrow.objects other ≡ Some with → object.live ≡ true → Contains (node_of object).edges edge → held_in narrow (node_of with) edge.at edge.size ≡ Some holds →
       IsReached wide narrow (Values edge.value holds)
+  ByNext : (one other : ℕ) (object with : Object) (links other_links : Links) → IsReached wide narrow (Objects one other) → wide.objects one ≡ Some object → narrow.objects other ≡ Some with →
+      links_in object.shape ≡ Some links → links_in with.shape ≡ Some other_links → IsReached wide narrow (Values links.next_value (content narrow other_links.next_value))
+  ByPrev : (one other : ℕ) (object with : Object) (links other_links : Links) → IsReached wide narrow (Objects one other) → wide.objects one ≡ Some object → narrow.objects other ≡ Some with →
+      links_in object.shape ≡ Some links → links_in with.shape ≡ Some other_links → IsReached wide narrow (Values links.prev_value (content narrow other_links.prev_value))
   ByAddress : (key one other : ℕ) (offset offset' : ℤ) (target target' : Target) → IsReached wide narrow (Values key (Leads other offset target)) → wide.values key ≡ Some (Address one offset' target') →
       IsReached wide narrow (Objects one other)
 

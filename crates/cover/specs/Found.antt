@@ -8,9 +8,12 @@ use Rattle.graph.specs.declared.value.Target.{Target}
 use Rattle.graph.specs.declared.value.Value.{Value}
 use Rattle.graph.specs.declared.value.Value.TheVariants.{Const, Number, Any, Address}
 use Rattle.graph.specs.Meaning.{Maps}
+use Rattle.graph.specs.Nodes.{links_in, node_of}
 use Rattle.graph.specs.declared.edges.HasValue.{HasValue}
+use Rattle.graph.specs.declared.object.Links.{Links as ObjectLinks}
 use Rattle.graph.specs.declared.object.Object.{Object}
-use Rattle.cover.specs.Covers.{held_in, content, Pairing, Link, Objects, Values, IsReached, IsIn, IsCover}
+use Rattle.graph.specs.declared.template.Node.{Node}
+use Rattle.cover.specs.Covers.{held_in, content, Pairing, AreEndsPaired, Link, Objects, Values, IsReached, IsIn, IsCover}
 
 abbrev pub pairing_of : Found → Pairing
 pairing_of found = record {
@@ -122,19 +125,19 @@ led_to (Fixed number size) = None
 led_to (Leads object offset target) = Some object
 led_to (Kept key) = None
 
--- the value of an edge is paired with what the other object holds
-pub record IsLinked (narrow : Maps) (found : Found) (with : Object) (edge : HasValue) : Type 0 where
+-- the value of an edge is paired with what the other block, or node, holds
+pub record IsLinked (narrow : Maps) (found : Found) (with : Node) (edge : HasValue) : Type 0 where
   pub holds : Content
   pub held : held_in narrow with edge.at edge.size ≡ Some holds
   pub stands : IsIn (pairing_of found) (Values edge.value holds)
 
 -- so many of the edges are linked
-pub record Linking (wide narrow : Maps) (before after : Found) (with : Object) (edges : List HasValue) (at : ℕ) : Type 0 where
+pub record Linking (wide narrow : Maps) (before after : Found) (with : Node) (edges : List HasValue) (at : ℕ) : Type 0 where
   pub sound : IsSound wide narrow after
   pub grows : Grows before after
   pub linked : (k : ℕ) (d : HasValue) → k < at → k < length edges → IsLinked narrow after with (get_or edges k d)
 
-pub record Links (wide narrow : Maps) (before after : Found) (with : Object) (edges : List HasValue) (fine : Bool) : Type 0 where
+pub record Links (wide narrow : Maps) (before after : Found) (with : Node) (edges : List HasValue) (fine : Bool) : Type 0 where
   pub sound : IsSound wide narrow after
   pub grows : Grows before after
   pub linked : fine ≡ true → All (IsLinked narrow after with) edges
@@ -155,36 +158,58 @@ pub record Naming {One Other : Type 0} (wide narrow : Maps) (number : One → �
   pub linked : (place : ℕ) (one : One) (other : Other) → place < at → slice_get ones place ≡ Some one → slice_get others place ≡ Some other →
       (number one ≡ other_number other) × IsIn (pairing_of after) (link one other)
 
--- the values of the edges of an object are linked with what its partner holds
-abbrev pub AreEdgesLinked : Maps → Maps → Found → ℕ → Type 0
-AreEdgesLinked wide narrow found one =
-    (other : ℕ) (object with : Object) → IsIn (pairing_of found) (Objects one other) → wide.objects one ≡ Some object → narrow.objects other ≡ Some with → object.live ≡ true →
-    All (IsLinked narrow found with) object.edges
+-- what lies behind two objects and before them is paired, where they are segments
+abbrev pub AreEndsLinked : Maps → Found → Object → Object → Type 0
+AreEndsLinked narrow found object with =
+    (links other_links : ObjectLinks) → links_in object.shape ≡ Some links → links_in with.shape ≡ Some other_links → AreEndsPaired narrow (pairing_of found) links other_links
 
--- those of one object are
-pub record LinksObject (wide narrow : Maps) (before after : Found) (one : ℕ) (fine : Bool) : Type 0 where
+-- it is, or nothing covers
+pub record LinksEnds (wide narrow : Maps) (before after : Found) (object with : Object) (fine : Bool) : Type 0 where
   pub sound : IsSound wide narrow after
   pub grows : Grows before after
-  pub linked : fine ≡ true → AreEdgesLinked wide narrow after one
+  pub linked : fine ≡ true → AreEndsLinked narrow after object with
+  pub clash : fine ≡ false → IsNone wide narrow
+
+-- the values of the edges of an object that lives are linked with what its partner holds, or nothing covers
+pub record LinksContents (wide narrow : Maps) (before after : Found) (object with : Object) (fine : Bool) : Type 0 where
+  pub sound : IsSound wide narrow after
+  pub grows : Grows before after
+  pub linked : fine ≡ true → object.live ≡ true → All (IsLinked narrow after (node_of with)) (node_of object).edges
+  pub clash : fine ≡ false → IsNone wide narrow
+
+-- the values that an object names are linked with what its partner holds
+pub record IsLinkedWith (narrow : Maps) (found : Found) (object with : Object) : Type 0 where
+  pub ends : AreEndsLinked narrow found object with
+  pub edges : object.live ≡ true → All (IsLinked narrow found (node_of with)) (node_of object).edges
+
+-- those of the object with a key are
+abbrev pub IsFollowed : Maps → Maps → Found → ℕ → Type 0
+IsFollowed wide narrow found one =
+    (other : ℕ) (object with : Object) → IsIn (pairing_of found) (Objects one other) → wide.objects one ≡ Some object → narrow.objects other ≡ Some with → IsLinkedWith narrow found object with
+
+-- they are, or nothing covers
+pub record Follows (wide narrow : Maps) (before after : Found) (one : ℕ) (fine : Bool) : Type 0 where
+  pub sound : IsSound wide narrow after
+  pub grows : Grows before after
+  pub linked : fine ≡ true → IsFollowed wide narrow after one
   pub clash : fine ≡ false → IsNone wide narrow
 
 -- those of so many objects of the queue are
-pub record LinksSome (wide narrow : Maps) (before after : Found) (at : ℕ) : Type 0 where
+pub record FollowsSome (wide narrow : Maps) (before after : Found) (at : ℕ) : Type 0 where
   pub sound : IsSound wide narrow after
   pub grows : Grows before after
-  pub linked : (place one : ℕ) → place < at → slice_get after.queue.items place ≡ Some one → AreEdgesLinked wide narrow after one
+  pub linked : (place one : ℕ) → place < at → slice_get after.queue.items place ≡ Some one → IsFollowed wide narrow after one
 
 -- those of all objects that are paired are
-pub record LinksAll (wide narrow : Maps) (before after : Found) (fine : Bool) : Type 0 where
+pub record FollowsAll (wide narrow : Maps) (before after : Found) (fine : Bool) : Type 0 where
   pub sound : IsSound wide narrow after
   pub grows : Grows before after
-  pub linked : fine ≡ true → (one : ℕ) → AreEdgesLinked wide narrow after one
+  pub linked : fine ≡ true → (one : ℕ) → IsFollowed wide narrow after one
   pub clash : fine ≡ false → IsNone wide narrow
 
--- what variables, registers, ports and edges force is paired
+-- what variables, registers, ports and objects force is paired
 pub record IsClosed (wide narrow : Maps) (found : Found) : Type 0 where
   pub variables : (variable one other : ℕ) → wide.variables variable ≡ Some one → narrow.variables variable ≡ Some other → IsIn (pairing_of found) (Objects one other)
   pub registers : (register one other : ℕ) → wide.registers register ≡ Some one → narrow.registers register ≡ Some other → IsIn (pairing_of found) (Values one (content narrow other))
   pub ports : (place one other : ℕ) → slice_get wide.ports place ≡ Some one → slice_get narrow.ports place ≡ Some other → IsIn (pairing_of found) (Values one (content narrow other))
-  pub edges : (one other : ℕ) (object with : Object) → IsIn (pairing_of found) (Objects one other) → wide.objects one ≡ Some object → narrow.objects other ≡ Some with → object.live ≡ true →
-      All (IsLinked narrow found with) object.edges
+  pub objects : (one : ℕ) → IsFollowed wide narrow found one

@@ -11,6 +11,7 @@ use Rattle.graph.specs.declared.parts.Parts.{Parts}
 use Rattle.graph.specs.declared.value.Value.{Value}
 use Rattle.graph.specs.declared.value.Value.TheVariants.{Const, Number, Any, Address}
 use Rattle.graph.specs.Meaning.{Maps, maps_of}
+use Rattle.graph.specs.Nodes.{node_of}
 use Rattle.cover.specs.declared.content.Content.{Content}
 use Rattle.cover.specs.declared.content.Content.TheVariants.{Fixed, Leads, Kept}
 use Rattle.cover.specs.Covers.{content, held_in}
@@ -40,13 +41,13 @@ may_fit (Some (Address object offset target)) held = is_pointer held
 
 -- so may the value of each of these edges with what the other object holds there
 abbrev pub are_met : Maps → Maps → Object → List HasValue → Bool
-are_met wide narrow other edges = list_all (λ edge. may_fit (wide.values edge.value) (held_in narrow other edge.at edge.size)) edges
+are_met wide narrow other edges = list_all (λ edge. may_fit (wide.values edge.value) (held_in narrow (node_of other) edge.at edge.size)) edges
 
 -- two live objects may be paired: no byte of the other one has a greater class, and the edges are met
 abbrev pub may_be_paired : Maps → Maps → Option Object → Option Object → Bool
 may_be_paired wide narrow None other = false
 may_be_paired wide narrow (Some one) None = false
-may_be_paired wide narrow (Some one) (Some other) = are_at_most other.plane one.plane && are_met wide narrow other one.edges
+may_be_paired wide narrow (Some one) (Some other) = are_at_most (node_of other).plane (node_of one).plane && are_met wide narrow other (node_of one).edges
 
 -- entries of the same numbers stand in both lists, in one order, and pass the test in pairs
 abbrev pub agree : {Entry : Type 0} → (Entry → ℕ) → (Entry → Entry → Bool) → List Entry → List Entry → Bool

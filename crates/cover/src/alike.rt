@@ -1,25 +1,41 @@
 //! Whether objects that are paired look alike.
 ghost use Rattle.std.specs.Prelude.{◌≡◌, ◌↔◌, true};
 ghost use Rattle.graph.specs.Meaning.{maps_of};
-ghost use Rattle.graph.specs.declared.object.Shape.TheVariants as s;
+ghost use Rattle.graph.specs.Nodes.{links_in, node_of};
 ghost use Rattle.planes.specs.Lanes.{are_at_most};
-ghost use Rattle.cover.specs.Covers.{IsAddress};
+ghost use Rattle.cover.specs.Covers.{IsAddress, AreLinkedAlike, AreLinksAlike};
 ghost use Rattle.cover.specs.Checked.{IsFinished, Settled, StandsIfAddress, HaveAddresses, LooksAlike, LookAlikeAt, AreAlike};
 
 use crate::content::Content;
 use crate::edges::{content_of, value_in};
 use crate::found::Found;
+use crate::node::{edges_of, plane_of};
 use crate::worklist::partner;
-use graph::{Graph, HasValue, Object, Shape};
+use graph::{Graph, HasValue, Links, Object, Shape};
 use planes::Plane;
 
-/// Whether an object is a region.
-fn is_region(shape: &Shape) -> bool
-    ensures { (result ≡ true) ↔ (shape.now ≡ s.Region) }
+/// Whether the nodes of two segments are linked alike, and those of the first one are at least as few.
+fn are_linked_alike(one: Links, other: Links) -> bool
+    ensures { (result ≡ true) ↔ AreLinkedAlike one other }
 {
-    match shape {
-        Shape::Region => true,
-        _ => false,
+    other.twofold == one.twofold
+        && other.head == one.head
+        && other.next == one.next
+        && other.prev == one.prev
+        && other.back == one.back
+        && one.least <= other.least
+}
+
+/// Whether both are regions, or both are segments whose nodes are linked alike.
+fn are_links_alike(one: &Shape, other: &Shape) -> bool
+    ensures { (result ≡ true) ↔ AreLinksAlike (links_in one.now) (links_in other.now) }
+{
+    match one.links() {
+        None => other.links().is_none(),
+        Some(links) => match other.links() {
+            None => false,
+            Some(other_links) => are_linked_alike(links, other_links),
+        },
     }
 }
 
@@ -72,18 +88,17 @@ fn have_addresses(narrow: &Graph, ones: &[HasValue], others: &[HasValue]) -> boo
     true
 }
 
-/// Whether two live regions look alike.
-fn are_regions_alike(narrow: &Graph, one: &Object, other: &Object) -> bool
+/// Whether two objects that live look alike.
+fn are_live_alike(narrow: &Graph, one: &Object, other: &Object) -> bool
     requires live { one.now.live ≡ true }
     requires both_live { other.now.live ≡ one.now.live }
     requires kind { other.now.kind ≡ one.now.kind }
-    requires region { one.now.shape ≡ s.Region }
-    requires other_region { other.now.shape ≡ s.Region }
+    requires links { AreLinksAlike (links_in one.now.shape) (links_in other.now.shape) }
     ensures { (result ≡ true) ↔ LooksAlike (maps_of narrow.now) one.now other.now }
 {
     other.size == one.size
-        && is_at_most(&other.plane, &one.plane)
-        && have_addresses(narrow, one.edges.as_slice(), other.edges.as_slice())
+        && is_at_most(plane_of(other), plane_of(one))
+        && have_addresses(narrow, edges_of(one), edges_of(other))
 }
 
 /// Whether two objects look alike.
@@ -96,16 +111,13 @@ fn look_alike(narrow: &Graph, one: &Object, other: &Object) -> bool
     if other.kind != one.kind {
         return false;
     }
-    if !is_region(&one.shape) {
-        return false;
-    }
-    if !is_region(&other.shape) {
+    if !are_links_alike(&one.shape, &other.shape) {
         return false;
     }
     if !one.live {
         return true;
     }
-    are_regions_alike(narrow, one, other)
+    are_live_alike(narrow, one, other)
 }
 
 /// Whether the objects with two keys look alike.

@@ -2,11 +2,13 @@
 ghost use Rattle.std.specs.Prelude.{◌≡◌, ◌<◌, ◌++◌, OnOk, IfOk, IfSome};
 ghost use Rattle.graph.specs.Maps.{object_at, storage_of};
 ghost use Rattle.graph.specs.Meaning.{maps_of};
+ghost use Rattle.graph.specs.Nodes.{node_of};
 ghost use Rattle.graph.specs.Whole.{IsGraph};
 ghost use Rattle.cover.specs.Cells.{is_constant, is_cell, PutsCell, cells_of_edges, cells_of_object, constant_cells, held_at, mixed, mixed_with, fingerprint};
 
 use crate::content::Content;
 use crate::edges::{content_of, held_in, value_in};
+use crate::node::edges_of;
 use cbase::{List, NoMemory};
 use graph::{Graph, HasValue, Named, Object};
 use std::alloc::Global;
@@ -39,7 +41,7 @@ fn is_cell(graph: &Graph, object: &Object, edge: HasValue) -> bool
     if edge.at >= 64 {
         return false;
     }
-    match value_in(object.edges.as_slice(), edge.at, edge.size) {
+    match value_in(edges_of(object), edge.at, edge.size) {
         None => false,
         Some(key) => is_constant(content_of(graph, key)),
     }
@@ -74,9 +76,9 @@ fn put_cells(
     object: &Object,
     variable: u32,
 ) -> Result<(), NoMemory>
-    ensures { OnOk result (cells.new ≡ cells.old ++ cells_of_edges (maps_of graph.now) object.now variable object.now.edges) }
+    ensures { OnOk result (cells.new ≡ cells.old ++ cells_of_edges (maps_of graph.now) object.now variable (node_of object.now).edges) }
 {
-    let mut left = object.edges.as_slice();
+    let mut left = edges_of(object);
     while let [first, rest @ ..] = left {
         put_cell(cells, graph, object, variable, *first)?;
         left = rest;

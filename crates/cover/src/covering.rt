@@ -99,8 +99,9 @@ fn pairs_and_covers(
 
 /// Whether the wider graph covers the narrower one: whether there is a pairing of all that lives in both, from variables, registers and ports on, in which
 /// all that the wider one says of a byte, a value or a pair of values holds of what it is paired with. Then the wider one stands for each state that the
-/// narrower one stands for (`what_is_covered_is_stood_for`). Live segments are paired with nothing. Takes time in proportion to both graphs, but for edges
-/// of one object and for unequal pairs, which are looked for one by one.
+/// narrower one stands for (`what_is_covered_is_stood_for`). A region is paired with a region, and a segment with a segment whose nodes are linked alike, of
+/// which there are at least as many at least. Takes time in proportion to both graphs, but for edges of one object and for unequal pairs, which are looked
+/// for one by one.
 pub fn covers(alloc: Global, wide: &Graph, narrow: &Graph) -> Result<bool, NoMemory>
     ensures { IfOk result (λ covers. (covers ≡ true) ↔ Covers wide.now narrow.now) }
 {

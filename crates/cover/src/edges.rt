@@ -1,12 +1,14 @@
-//! The values of the edges of two objects that are paired.
+//! The values of the edges of two objects that are paired, or of their nodes.
 ghost use Rattle.std.specs.Prelude.{◌≡◌, true, drop, Some, IfOk};
 ghost use Rattle.graph.specs.Maps.{object_at};
 ghost use Rattle.graph.specs.Meaning.{maps_of};
+ghost use Rattle.graph.specs.Nodes.{node_of};
 ghost use Rattle.cover.specs.Covers.{content, value_in, are_zeros, held_in, Objects, IsReached};
 ghost use Rattle.cover.specs.Found.{IsSound, Links};
 
 use crate::content::Content;
 use crate::found::{Found, pair_value};
+use crate::node::{edges_of, plane_of};
 use cbase::NoMemory;
 use graph::{Graph, HasValue, Object, Value};
 use planes::Plane;
@@ -63,14 +65,14 @@ fn are_zeros(plane: &Plane, at: u32, size: u8) -> bool
     plane.all_at_most(at, size as u32, 0)
 }
 
-/// What the range of an object holds: the value of its edge, or zeros.
+/// What a range of an object's block, or of its nodes, holds: the value of its edge, or zeros.
 pub(crate) fn held_in(graph: &Graph, object: &Object, at: u32, size: u8) -> Option<Content>
-    ensures { result ≡ held_in (maps_of graph.now) object.now at size }
+    ensures { result ≡ held_in (maps_of graph.now) (node_of object.now) at size }
 {
-    match value_in(object.edges.as_slice(), at, size) {
+    match value_in(edges_of(object), at, size) {
         Some(key) => Some(content_of(graph, key)),
         None => {
-            if are_zeros(&object.plane, at, size) {
+            if are_zeros(plane_of(object), at, size) {
                 Some(Content::Fixed { number: 0, size })
             } else {
                 None
@@ -95,9 +97,9 @@ pub(crate) fn pair_edges(
     requires stands { object_at wide.now.objects one ≡ Some object.now }
     requires with_stands { object_at narrow.now.objects other ≡ Some with.now }
     requires live { object.now.live ≡ true }
-    ensures { IfOk result (λ fine. Links (maps_of wide.now) (maps_of narrow.now) found.old found.new with.now object.now.edges fine) }
+    ensures { IfOk result (λ fine. Links (maps_of wide.now) (maps_of narrow.now) found.old found.new (node_of with.now) (node_of object.now).edges fine) }
 {
-    let edges = object.edges.as_slice();
+    let edges = edges_of(object);
     let mut at = 0;
     while at < edges.len() {
         let edge = edges[at];

@@ -12,6 +12,7 @@ mod found;
 mod kept;
 pub mod laws;
 mod live;
+mod node;
 mod quick;
 mod roots;
 mod tables;

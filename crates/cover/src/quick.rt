@@ -10,6 +10,7 @@ ghost use Rattle.cover.specs.Quick.{is_fixed, is_pointer, may_fit, are_met, may_
 use crate::alike::is_at_most;
 use crate::content::Content;
 use crate::edges::{content_of, held_in};
+use crate::node::{edges_of, plane_of};
 use graph::{Graph, HasValue, Held, Named, Object, Value};
 use planes::Plane;
 
@@ -81,8 +82,8 @@ fn may_be_paired(wide: &Graph, narrow: &Graph, key: u32, with: u32) -> bool
 {
     match (wide.object(key), narrow.object(with)) {
         (Some(one), Some(other)) => {
-            are_at_most(&other.plane, &one.plane)
-                && are_met(wide, narrow, other, one.edges.as_slice())
+            are_at_most(plane_of(other), plane_of(one))
+                && are_met(wide, narrow, other, edges_of(one))
         }
         _ => false,
     }
