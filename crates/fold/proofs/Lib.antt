@@ -1,0 +1,16 @@
+pub mod Bytes
+pub mod Entries
+pub mod Rooms
+pub mod Ascending
+pub mod There
+pub mod Case
+pub mod Ends
+pub mod Formed
+pub mod Rows
+pub mod BothNodes
+pub mod Given
+pub mod Stands
+pub mod Nodes
+pub mod Means
+pub mod Holds
+pub mod Tried
