@@ -18,8 +18,8 @@ BUDGET = b"10000"  # as that of the program
 NAME = "graph_text"
 HERE = sources.HOME / "tools" / "graph"
 USES = (
-    "cbase smallvec ctrees arithmetic indexmap typing expressions items bytes_core choices flow c_machine c_steps c_text simulation lowering lower planes slab graph tidying changes "
-    "reinterpret heap_steps range_steps block_steps register_steps edge_steps transfer alike_steps trail cover driver ctokens definitions cgrammar cevents cparser cread_expr cbuild cconstructs "
+    "cbase smallvec ctrees arithmetic indexmap typing expressions items bytes_core choices flow c_machine c_steps c_text simulation lowering lower planes slab graph tidying coarse changes "
+    "reinterpret heap_steps range_steps block_steps register_steps materialise settle fold edge_steps transfer alike_steps trail cover driver ctokens definitions cgrammar cevents cparser cread_expr cbuild cconstructs "
     "cread ccheck")
 ROW = b"int main(void) { return 0; }\n"
 REFUSED = {

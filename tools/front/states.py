@@ -6,8 +6,9 @@ the right: what is known of their bytes, and a line from each address to its obj
 import html
 import re
 
-ENTRY = re.compile(r"(?:entry (\d+)|next) at (\d+): (?:(kept|covered(?: by (\d+))?); )?(.*)")
+ENTRY = re.compile(r"(?:entry (\d+)|next) at (\d+): (?:(kept|covered(?: by (\d+))?|replaced by \d+); )?(.*)")
 CAUSE = re.compile(r"from (\d+) along (\d+)(?:, (\d+:\d+: .*?))?(?:; loss (\d+))?")
+MADE = re.compile(r"(?:coarse|fold) of (\d+)")
 OBJECT = re.compile(r"o(\d+): (.*)")
 ADDRESS = re.compile(r"(.*= )?&o(\d+)\b.*")
 NAMED = re.compile(r"v\d+ in o(\d+)")
@@ -24,9 +25,10 @@ class Card:
         step = CAUSE.fullmatch(cause)
         self.number = None if number is None else int(number)
         self.cover = None if cover is None else int(cover)
-        self.behind = None if step is None else int(step[1])
+        made = MADE.fullmatch(cause)
+        self.behind = int(step[1]) if step else int(made[1]) if made else None
         self.head = [(f"{'next' if number is None else number} at point {point}" + (f", {self.state}" if self.state else ""), COLOUR)]
-        self.head.append(("start" if step is None else f"from {step[1]} along edge {step[2]}", COLOUR))
+        self.head.append((f"from {step[1]} along edge {step[2]}" if step else cause, COLOUR))
         if step and step[3]:
             self.head.append((step[3], COLOUR))
         if step and step[4]:

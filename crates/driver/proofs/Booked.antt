@@ -13,18 +13,20 @@ use Rattle.cover.specs.Quick.{live_count}
 use Rattle.flow.specs.declared.flow_graph.Flow.{Flow}
 use Rattle.trail.specs.declared.trail.Cause.{Cause}
 use Rattle.trail.specs.declared.trail.Entry.{Entry}
+use Rattle.trail.specs.Work.{candidate}
 use Rattle.trail.proofs.Grow.{at_either}
+use Rattle.driver.specs.declared.verdict.Limits.{Limits}
 use Rattle.driver.specs.declared.work.Work.{Work}
 use Rattle.driver.specs.declared.mask.Mask.{Mask}
 use Rattle.driver.specs.declared.mask.Masks.{Masks}
 use Rattle.driver.specs.Linked.{AreLinked}
 use Rattle.driver.specs.Looping.{IsNothingKnown}
-use Rattle.driver.specs.Peers.{HasMask, mask_key, AreMasked, slot_of, print_in, slot_in, slot_key, ArePeers, PutsMask, IsCoveredAt, IsUncovered}
-use Rattle.driver.specs.Growing.{kept_count, IsBooked, candidate, Grown, IsFull}
+use Rattle.driver.specs.Peers.{HasMask, mask_key, AreMasked, slot_of, print_in, slot_in, slot_key, ArePeers, PutsMask}
+use Rattle.driver.specs.Growing.{kept_count, IsBooked, IsPutIn, IsUnkept}
 use Rattle.driver.proofs.Counted.{counted_there, counted_nothing}
 use Rattle.driver.proofs.Linking.{linked_more, linked_none, linked_nothing}
 
-count_more : (trail : List Entry) (new : Entry) → kept_count (trail ++ new ∷ []) ≡ kept_count trail + kept_count (new ∷ [])
+pub count_more : (trail : List Entry) (new : Entry) → kept_count (trail ++ new ∷ []) ≡ kept_count trail + kept_count (new ∷ [])
 count_more trail new = ap (λ (entries : List Entry). length entries) (filter-append (λ entry. entry.kept) trail (new ∷ [])) ∙
     length-append (filter (λ entry. entry.kept) trail) (filter (λ entry. entry.kept) (new ∷ []))
 
@@ -87,24 +89,22 @@ pub slot_found : (count slot point live print : ℕ) (graph : Parts) (cells : Li
 slot_found count slot point live print graph cells found slot_is live_is print_is found_is cells_are =
     slot_is ∙ (ap (λ (n : ℕ). slot_of count point n print) live_is ∙ ap (λ (n : ℕ). slot_of count point (live_count graph) n) (print_is ∙ ap print_in (found_is ∙ ap (fingerprint graph) cells_are)))
 
-pub grown_kept : (budget : ℕ) (before after : Work) (point slot mark count : ℕ) (cells : List Cell) (cause : Cause) (graph : Parts) → IsGraph graph → IsBooked budget before →
-    IsUncovered before.trail point graph 0 → before.kept < budget → PutsMask before.masks after.masks point cells → cells ≡ constant_cells graph → slot ≡ slot_in (length before.slots.items) point graph → slot < length before.slots.items →
+pub kept_there : (budget : ℕ) (before after : Work) (point slot mark count : ℕ) (cells : List Cell) (cause : Cause) (graph : Parts) → IsGraph graph → IsBooked budget before →
+    before.kept < budget → PutsMask before.masks after.masks point cells → cells ≡ constant_cells graph → slot ≡ slot_in (length before.slots.items) point graph → slot < length before.slots.items →
     after.trail ≡ before.trail ++ candidate point cause graph true ∷ [] → after.slots.items ≡ set before.slots.items slot (length before.trail + 1) → after.earlier.items ≡ before.earlier.items ++ mark ∷ [] →
-    mark ≡ get_or before.slots.items slot 0 → after.counts.items ≡ before.counts.items ++ count ∷ [] → count ≡ live_count graph → after.kept ≡ before.kept + 1 → after.warnings ≡ before.warnings → after.next ≡ before.next → Grown budget before after point cause graph
-grown_kept budget before after point slot mark count cells cause graph graph_is booked uncovered room puts cells_are slot_is within trail_is slots_is earlier_is mark_is counts_are count_is kept_is warnings_are next_is = record {
-  kept = true;
-  graph_is = graph_is;
-  trail_is = trail_is;
-  settled = inl refl;
-  uncovered = λ kept. uncovered;
-  booked = record {
-    peers = peers_there after.trail after.slots.items after.earlier.items trail_is slots_is (earlier_is ∙ ap (λ (m : ℕ). before.earlier.items ++ m ∷ []) mark_is);
-    counts = counted_there before.trail after.trail before.counts.items after.counts.items (candidate point cause graph true) count booked.counts trail_is counts_are graph_is count_is;
-    kept = kept_is ∙ (ap (λ (n : ℕ). n + 1) booked.kept ∙ (sym (count_more before.trail (candidate point cause graph true)) ∙ ap kept_count (sym trail_is)));
-    within = omega (arith, kept_is);
+    mark ≡ get_or before.slots.items slot 0 → after.counts.items ≡ before.counts.items ++ count ∷ [] → count ≡ live_count graph → after.kept ≡ before.kept + 1 → after.warnings ≡ before.warnings → after.next ≡ before.next → IsPutIn budget before after (candidate point cause graph true ∷ [])
+kept_there budget before after point slot mark count cells cause graph graph_is booked room puts cells_are slot_is within trail_is slots_is earlier_is mark_is counts_are count_is kept_is warnings_are next_is = record {
+  put = record {
+    trail_is = trail_is;
+    booked = record {
+      peers = peers_there after.trail after.slots.items after.earlier.items trail_is slots_is (earlier_is ∙ ap (λ (m : ℕ). before.earlier.items ++ m ∷ []) mark_is);
+      counts = counted_there before.trail after.trail before.counts.items after.counts.items (candidate point cause graph true) count booked.counts trail_is counts_are graph_is count_is;
+      kept = kept_is ∙ (ap (λ (n : ℕ). n + 1) booked.kept ∙ (sym (count_more before.trail (candidate point cause graph true)) ∙ ap kept_count (sym trail_is)));
+      within = omega (arith, kept_is);
+    };
+    points = puts.points;
+    warnings = warnings_are;
   };
-  points = puts.points;
-  warnings = warnings_are;
   next = next_is;
 }
   where
@@ -116,24 +116,26 @@ grown_kept budget before after point slot mark count cells cause graph graph_is 
         (subst (λ (m : List ℕ). ArePeers (before.trail ++ candidate point cause graph true ∷ []) after.masks (set before.slots.items slot (length before.trail + 1)) m) (sym three)
         (peers_kept before.trail (candidate point cause graph true) before.masks after.masks before.slots.items before.earlier.items slot cells booked.peers refl puts cells_are slot_is within)))
 
-pub grown_covered : (budget : ℕ) (before after : Work) (point count : ℕ) (cause : Cause) (graph : Parts) → IsGraph graph → IsBooked budget before → IsCoveredAt before.trail point graph →
+pub unkept_there : (budget : ℕ) (before after : Work) (point count : ℕ) (cause : Cause) (graph : Parts) → IsGraph graph → IsBooked budget before →
     after.trail ≡ before.trail ++ candidate point cause graph false ∷ [] → after.masks ≡ before.masks → after.slots.items ≡ before.slots.items → after.earlier.items ≡ before.earlier.items ++ 0 ∷ [] →
-    after.counts.items ≡ before.counts.items ++ count ∷ [] → count ≡ live_count graph → after.kept ≡ before.kept → after.warnings ≡ before.warnings → after.next ≡ before.next → Grown budget before after point cause graph
-grown_covered budget before after point count cause graph graph_is booked covered trail_is masks_are slots_is earlier_is counts_are count_is kept_is warnings_are next_is = record {
-  kept = false;
-  graph_is = graph_is;
-  trail_is = trail_is;
-  settled = inr (record { number = covered.number; other = covered.peer.entry; there = covered.peer.there; kept = covered.peer.kept; point = covered.peer.point_is; covers = covered.covers });
-  uncovered = λ kept. absurd cc;
-  booked = record {
-    peers = peers_there after.trail after.masks after.slots.items after.earlier.items trail_is masks_are slots_is earlier_is;
-    counts = counted_there before.trail after.trail before.counts.items after.counts.items (candidate point cause graph false) count booked.counts trail_is counts_are graph_is count_is;
-    kept = kept_is ∙ (booked.kept ∙ (none (kept_count before.trail) ∙ (sym (count_more before.trail (candidate point cause graph false)) ∙ ap kept_count (sym trail_is))));
-    within = subst (λ (n : ℕ). n ≤ budget) (sym kept_is) booked.within;
+    after.counts.items ≡ before.counts.items ++ count ∷ [] → count ≡ live_count graph → after.kept ≡ before.kept → after.warnings ≡ before.warnings → after.next ≡ before.next →
+    IsUnkept budget before after (candidate point cause graph false ∷ [])
+unkept_there budget before after point count cause graph graph_is booked trail_is masks_are slots_is earlier_is counts_are count_is kept_is warnings_are next_is = record {
+  in_work = record {
+    put = record {
+      trail_is = trail_is;
+      booked = record {
+        peers = peers_there after.trail after.masks after.slots.items after.earlier.items trail_is masks_are slots_is earlier_is;
+        counts = counted_there before.trail after.trail before.counts.items after.counts.items (candidate point cause graph false) count booked.counts trail_is counts_are graph_is count_is;
+        kept = kept_is ∙ (booked.kept ∙ (none (kept_count before.trail) ∙ (sym (count_more before.trail (candidate point cause graph false)) ∙ ap kept_count (sym trail_is))));
+        within = subst (λ (n : ℕ). n ≤ budget) (sym kept_is) booked.within;
+      };
+      points = ap (λ (masks : Masks). length masks.newest.items) masks_are;
+      warnings = warnings_are;
+    };
+    next = next_is;
   };
-  points = ap (λ (masks : Masks). length masks.newest.items) masks_are;
-  warnings = warnings_are;
-  next = next_is;
+  kept = kept_is;
 }
   where
     none : (n : ℕ) → n ≡ n + 0
@@ -177,11 +179,11 @@ nothing_booked budget points count work trail_is masks_are newest_is before_is s
       some = subst (λ (n : ℕ). 0 < n) (sym (ap (λ (s : List ℕ). length s) two ∙ length-replicate count 0)) some;
     })
 
-pub nothing_there : (flow : Flow) (budget count : ℕ) (work : Work) → work.trail ≡ [] → work.masks.items ≡ [] → work.masks.newest.items ≡ replicate flow.points 0 → work.masks.before.items ≡ [] →
-    work.slots.items ≡ replicate count 0 → 0 < count → work.earlier.items ≡ [] → work.counts.items ≡ [] → work.kept ≡ 0 → work.warnings ≡ [] → work.next ≡ None → IsNothingKnown flow budget work
-nothing_there flow budget count work trail_is masks_are newest_is before_is slots_is some earlier_is counts_are kept_is warnings_are next_is = record {
+pub nothing_there : (flow : Flow) (limits : Limits) (count : ℕ) (work : Work) → work.trail ≡ [] → work.masks.items ≡ [] → work.masks.newest.items ≡ replicate flow.points 0 → work.masks.before.items ≡ [] →
+    work.slots.items ≡ replicate count 0 → 0 < count → work.earlier.items ≡ [] → work.counts.items ≡ [] → work.kept ≡ 0 → work.warnings ≡ [] → work.next ≡ None → IsNothingKnown flow limits work
+nothing_there flow limits count work trail_is masks_are newest_is before_is slots_is some earlier_is counts_are kept_is warnings_are next_is = record {
   trail = trail_is;
-  booked = nothing_booked budget flow.points count work trail_is masks_are newest_is before_is slots_is some earlier_is counts_are kept_is;
+  booked = nothing_booked limits.budget flow.points count work trail_is masks_are newest_is before_is slots_is some earlier_is counts_are kept_is;
   points = ap (λ (n : List ℕ). length n) newest_is ∙ length-replicate flow.points 0;
   kept = kept_is;
   warnings = warnings_are;
@@ -227,16 +229,3 @@ mask_added before after point mark cells linked within items_are newest_is befor
 
 pub mask_stays : (masks : Masks) (point : ℕ) (cells : List Cell) → AreLinked (map mask_key masks.items) masks.newest.items masks.before.items → HasMask masks.items point cells → PutsMask masks masks point cells
 mask_stays masks point cells linked has = record { keeps = λ number mask stands. stands; has = has; by_point = linked; points = refl }
-
-pub full_there : (budget : ℕ) (before after : Work) (point : ℕ) (cause : Cause) (graph : Parts) → IsGraph graph → IsBooked budget before → IsUncovered before.trail point graph 0 →
-    budget ≤ before.kept → after ≡ record before { next = Some (candidate point cause graph true) } → IsFull budget before after point cause graph
-full_there budget before after point cause graph graph_is booked uncovered full is = subst (λ (work : Work). IsFull budget before work point cause graph) (sym is) (record {
-  graph_is = graph_is;
-  trail_is = refl;
-  uncovered = uncovered;
-  booked = record { peers = booked.peers; counts = booked.counts; kept = booked.kept; within = booked.within };
-  points = refl;
-  full = let kept : before.kept ≡ kept_count before.trail = booked.kept in let within : before.kept ≤ budget = booked.within in sym kept ∙ omega arith;
-  warnings = refl;
-  next = refl;
-})

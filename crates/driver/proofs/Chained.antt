@@ -1,9 +1,9 @@
 -- Those entries are marked to which chains of steps without loss lead.
 use Rattle.std.proofs.Common.{◌≡◌, ℕ, zero, suc, ◌+◌, ◌<◌, ◌↔◌, Bool, true, false, ◌&&◌, List, [], ◌∷◌, ◌++◌, Option, None, Some, length, length-append, refl, sym, ◌∙◌, ap, subst, inl, inr, arith}
 use Rattle.std.specs.Prelude.{slice_index_or}
-use Rattle.std.proofs.lemmas.Bool.{cases_lt, and_parts}
+use Rattle.std.proofs.lemmas.Bool.{false≢true, cases_lt, and_parts}
 use Rattle.trail.specs.declared.trail.Cause.{Cause}
-use Rattle.trail.specs.declared.trail.Cause.TheVariants.{Start, Step}
+use Rattle.trail.specs.declared.trail.Cause.TheVariants.{Start, Step, Fold, Coarse}
 use Rattle.trail.specs.declared.trail.Entry.{Entry}
 use Rattle.trail.specs.Trail.{At, IsReal, RealStart, RealStep}
 use Rattle.trail.proofs.Sound.{same_some}
@@ -53,9 +53,26 @@ comes_from trail number from edge result loss entry there is (RealStep _ from' e
     let none : None ≡ loss = cc in
     record { none = ap is_none (sym none); before = subst (λ (n : ℕ). IsReal trail n) same before }
 
+-- no chain leads to what is made of a graph at a loop head
+not_made : (trail : List Entry) (number : ℕ) (entry : Entry) → At trail number entry → IsReal trail number → (entry.cause ≡ Start → ⊥) →
+    ((from edge result : ℕ) → entry.cause ≡ Step from edge result None → ⊥) → ⊥
+not_made trail number entry there (RealStart _ other at start) no_start no_step = no_start (ap (λ (e : Entry). e.cause) (same_some entry other (sym there ∙ at)) ∙ start)
+not_made trail number entry there (RealStep _ from edge result other at step before) no_start no_step =
+    no_step from edge result (ap (λ (e : Entry). e.cause) (same_some entry other (sym there ∙ at)) ∙ step)
+
 mark_is : (trail : List Entry) (marks : List Bool) (count : ℕ) (entry : Entry) (cause : Cause) → AreMarked trail marks count → At trail count entry → entry.cause ≡ cause →
     IsFromEarlier cause count → (leads_on marks cause ≡ true) ↔ IsReal trail count
 mark_is trail marks count entry Start so there is earlier = (λ is_yes. real_start trail count entry there is, λ real. refl)
+mark_is trail marks count entry (Fold from) so there is earlier = (
+  λ is_yes. absurd (false≢true is_yes),
+  λ real. absurd (not_made trail count entry there real (λ same. let e : Fold from ≡ Start = sym is ∙ same in cc)
+      (λ before edge result same. let e : Fold from ≡ Step before edge result None = sym is ∙ same in cc)),
+)
+mark_is trail marks count entry (Coarse from) so there is earlier = (
+  λ is_yes. absurd (false≢true is_yes),
+  λ real. absurd (not_made trail count entry there real (λ same. let e : Coarse from ≡ Start = sym is ∙ same in cc)
+      (λ before edge result same. let e : Coarse from ≡ Step before edge result None = sym is ∙ same in cc)),
+)
 mark_is trail marks count entry (Step from edge result loss) so there is earlier = (
   λ is_yes. let (none, marked) = and_parts (is_none loss) (slice_index_or marks from false) is_yes in
       real_step trail count from edge result loss entry there is (is_none_of loss none) ((so.is from earlier).0 marked),

@@ -1,37 +1,38 @@
 -- How it begins, and what a verdict says.
-use Rattle.std.proofs.Common.{◌≡◌, ℕ, zero, suc, ◌<◌, ◌≤◌, List, [], ◌∷◌, Bool, true, false, refl, sym, ap, subst, ◌∙◌, inl, inr, Option, None, Some, length, ◌++◌, take, ◌↔◌, arith}
+use Rattle.std.proofs.Common.{◌≡◌, ℕ, zero, suc, ◌<◌, ◌≤◌, List, [], ◌∷◌, Bool, true, false, refl, sym, ap, subst, ◌∙◌, Option, None, Some, length, ◌++◌, take, ◌↔◌, arith}
 use Rattle.std.specs.Prelude.{slice_get, slice_index_or}
 use Rattle.std.specs.Option.{option_map_or}
 use Rattle.std.proofs.lemmas.Option.{slice_get_within}
 use Rattle.cbase.specs.declared.place.Place.{Place}
 use Rattle.graph.specs.declared.parts.Parts.{Parts}
+use Rattle.graph.specs.Whole.{IsGraph}
 use Rattle.flow.specs.declared.flow_graph.Flow.{Flow}
 use Rattle.flow.specs.declared.flow_graph.FlowFunction.{FlowFunction}
 use Rattle.flow.specs.InRange.{entry_of}
 use Rattle.flow.specs.Valid.{IsFlow}
 use Rattle.transfer.specs.Fitting.{FitsAt}
 use Rattle.transfer.specs.Start.{IsStartGraph}
-use Rattle.trail.specs.declared.trail.Cause.TheVariants.{Start, Step}
+use Rattle.trail.specs.declared.trail.Cause.TheVariants.{Start, Step, Fold, Coarse}
 use Rattle.trail.specs.declared.trail.Cause.{Cause}
 use Rattle.trail.specs.declared.trail.Entry.{Entry}
 use Rattle.trail.specs.Seen.{HasNoCalls}
 use Rattle.trail.specs.Theorems.{HaveOffsets}
-use Rattle.trail.specs.Trail.{At, Made, IsHonest, AreHonest, IsClosed, IsClean, AreTame, IsFaultTold, IsReal}
+use Rattle.trail.specs.Trail.{At, Made, AreHonest, IsClosed, IsClean, AreTame, IsFaultTold, IsReal}
 use Rattle.trail.proofs.Real.{error_met}
 use Rattle.flow.specs.Exclusive.{IsExclusive}
 use Rattle.flow.specs.Runs.{RunFaults}
-use Rattle.trail.specs.Work.{IsWorked, IsBefore, AreBefore}
-use Rattle.trail.proofs.Sound.{same_some, at_number, clean_tame, all_told, safe_shown, stay_shown}
-use Rattle.trail.proofs.Grow.{first_pushed, closes}
+use Rattle.trail.specs.Work.{IsWorked, AreBefore, IsOffered, Grows}
+use Rattle.trail.proofs.Sound.{at_number, clean_tame, all_told, safe_shown, stay_shown}
+use Rattle.trail.proofs.Grow.{first_grown, before_grown, closes}
 use Rattle.driver.specs.declared.verdict.Warning.{Warning}
+use Rattle.driver.specs.declared.verdict.Limits.{Limits}
 use Rattle.driver.specs.declared.work.Work.{Work}
-use Rattle.driver.specs.Driven.{driven, is_small}
-use Rattle.driver.specs.Growing.{candidate, Grown}
+use Rattle.driver.specs.Driven.{driven, widening, is_small, IsPlaced}
+use Rattle.driver.specs.Growing.{kept_count, Grown, IsFull}
 use Rattle.driver.specs.Telling.{IsAmong, IsTold, IsToldBy, IsWarning, AreWarnings, AreTold, AreAllTold, TellsFaults}
 use Rattle.driver.specs.Chains.{IsFromEarlier, AreFromEarlier}
 use Rattle.driver.specs.Errors.{IsErrorTold, alike_runs, AreErrorsMet}
 use Rattle.driver.specs.Ordering.{marked, AreInOrder}
-use Rattle.driver.specs.Peers.{IsUncovered}
 use Rattle.driver.specs.Looping.{IsNothingKnown, Worked, IsWhy, IsResting, IsEnded}
 use Rattle.driver.specs.Verdicts.{IsSafe, EndsSo, IsWarned, IsSpent, IsLarge}
 use Rattle.driver.proofs.Leading.{nothing_at}
@@ -54,62 +55,52 @@ entry_within flow valid = by_function (slice_get flow.functions flow.main) refl
         (at_number (λ (f : FlowFunction). (f.entry < flow.points) × (f.exit < flow.points)) flow.functions flow.main function valid.in_range.functions there).0
 
 -- main's start is put in where nothing is known yet
-pub begun_within : (flow : Flow) (budget : ℕ) (work : Work) (point : ℕ) → IsFlow flow → point ≡ entry_of flow flow.main → IsNothingKnown flow budget work → point < length work.masks.newest.items
-begun_within flow budget work point valid main known =
+pub begun_within : (flow : Flow) (limits : Limits) (work : Work) (point : ℕ) → IsFlow flow → point ≡ entry_of flow flow.main → IsNothingKnown flow limits work → point < length work.masks.newest.items
+begun_within flow limits work point valid main known =
     let within : entry_of flow flow.main < flow.points = entry_within flow valid in
     subst (λ (n : ℕ). point < n) (sym known.points) (subst (λ (p : ℕ). p < flow.points) (sym main) within)
 
-pub begun_uncovered : (flow : Flow) (budget : ℕ) (work : Work) (point : ℕ) (graph : Parts) → IsNothingKnown flow budget work → IsUncovered work.trail point graph 0
-begun_uncovered flow budget work point graph known = record {
-  none = λ number from peer covers. nothing_at number peer.entry (subst (λ (trail : List Entry). At trail number peer.entry) known.trail peer.there);
-}
+pub begun_placed : (flow : Flow) (point : ℕ) (graph : Parts) → IsGraph graph → is_small graph ≡ true → FitsAt flow (entry_of flow flow.main) graph → point ≡ entry_of flow flow.main → IsPlaced flow point graph
+begun_placed flow point graph graph_is small fits main = record { graph_is = graph_is; small = small; fits = subst (λ (p : ℕ). FitsAt flow p graph) (sym main) fits }
 
-pub begun_room : (flow : Flow) (budget : ℕ) (work : Work) → 1 ≤ budget → IsNothingKnown flow budget work → work.kept < budget
-begun_room flow budget work some known = let kept : work.kept ≡ 0 = known.kept in omega (arith, kept)
+-- one is kept at least
+pub begun_room : {A : Type 0} (flow : Flow) (limits : Limits) (nothing work : Work) (point : ℕ) (graph : Parts) → 1 ≤ limits.budget → IsNothingKnown flow limits nothing →
+    IsFull flow limits nothing work point Start graph → A
+begun_room flow limits nothing work point graph some known full =
+    let none : nothing.kept ≡ 0 = known.kept in
+    let same : work.kept ≡ nothing.kept = full.kept in
+    let count : work.kept ≡ kept_count work.trail = full.put.booked.kept in
+    let all : kept_count work.trail ≡ limits.budget = full.full in
+    absurd (omega (arith, none, same, count, all))
 
 -- nothing is followed yet
-pub worked_first : (flow : Flow) (budget : ℕ) (nothing work : Work) (point : ℕ) (graph : Parts) → IsFlow flow → IsStartGraph flow graph → is_small graph ≡ true →
-    FitsAt flow (entry_of flow flow.main) graph → point ≡ entry_of flow flow.main → IsNothingKnown flow budget nothing → Grown budget nothing work point Start graph → Worked flow budget work 0
-worked_first flow budget nothing work point graph valid start small fits main known grown = record {
+pub worked_first : (flow : Flow) (limits : Limits) (nothing work : Work) (point : ℕ) (graph : Parts) → IsStartGraph flow graph → IsPlaced flow point graph → point ≡ entry_of flow flow.main →
+    IsNothingKnown flow limits nothing → Grown flow limits nothing work point Start graph → Worked flow limits work 0
+worked_first flow limits nothing work point graph start placed main known grew = record {
   known = record {
-    worked = subst (λ (trail : List Entry). IsWorked driven flow trail 0) (sym trail_is) (first_pushed driven flow first honest refl kept_is);
-    booked = grown.booked;
-    points = grown.points ∙ known.points;
-    warnings = subst (λ (ws : List Warning). AreWarnings flow work.trail ws) (sym (grown.warnings ∙ known.warnings)) (record { each = λ warning among. no_warning warning among });
+    worked = subst (λ (trail : List Entry). IsWorked driven (widening limits.int_limit) flow trail 0) (sym trail_is) (first_grown driven (widening limits.int_limit) flow point graph grew.more grows offered);
+    booked = grew.in_work.put.booked;
+    points = grew.in_work.put.points ∙ known.points;
+    warnings = subst (λ (ws : List Warning). AreWarnings flow work.trail ws) (sym (grew.in_work.put.warnings ∙ known.warnings)) (record { each = λ warning among. no_warning warning among });
     told = record { told = λ place entry number kind below there kept has. absurd (omega arith) };
   };
-  next = grown.next ∙ known.next;
+  next = grew.in_work.next ∙ known.next;
   within = omega arith;
-  causes = subst (λ (trail : List Entry). AreBefore trail 0 0 0) (sym trail_is) (record { before = by_place });
+  causes = subst (λ (trail : List Entry). AreBefore trail 0 0 0) (sym trail_is)
+      (record { before = before_grown driven (widening limits.int_limit) flow point [] Start graph 0 0 0 tt grew.more grows });
 }
   where
-    first : Entry
-    first = candidate point Start graph grown.kept
+    trail_is : work.trail ≡ grew.more
+    trail_is = grew.in_work.put.trail_is ∙ ap (λ (trail : List Entry). trail ++ grew.more) known.trail
 
-    trail_is : work.trail ≡ first ∷ []
-    trail_is = grown.trail_is ∙ ap (λ (trail : List Entry). trail ++ first ∷ []) known.trail
-
-    -- nothing covers it, since nothing is there
-    kept_is : grown.kept ≡ true
-    kept_is = elim grown.settled [
-      | inl kept ↦ kept
-      | inr covered ↦ nothing_at covered.number covered.other (subst (λ (trail : List Entry). slice_get trail covered.number ≡ Some covered.other) known.trail covered.there)
-    ]
+    grows : Grows driven (widening limits.int_limit) flow point [] Start graph grew.more
+    grows = subst (λ (trail : List Entry). Grows driven (widening limits.int_limit) flow point trail Start graph grew.more) known.trail grew.grows
 
     no_warning : {A : Type 0} (warning : Warning) → IsAmong [] warning → A
     no_warning warning among = nothing_at among.number warning among.there
 
-    honest : IsHonest driven flow [] first
-    honest = record {
-      fits = record { graph_is = grown.graph_is; small = small; fits = subst (λ (p : ℕ). FitsAt flow p graph) (sym main) fits };
-      made = (main, start);
-      uncovered = λ kept number earlier there kept' same covers. nothing_at number earlier there;
-      new = λ number earlier there same. nothing_at number earlier there;
-    }
-
-    by_place : (place : ℕ) (entry : Entry) → slice_get (first ∷ []) place ≡ Some entry → IsBefore entry.cause 0 0 0
-    by_place zero entry there = subst (λ (x : Entry). IsBefore x.cause 0 0 0) (same_some first entry there) tt
-    by_place (suc place) entry there = nothing_at place entry there
+    offered : IsOffered driven (widening limits.int_limit) flow [] point Start graph
+    offered = record { fits = placed; made = λ kept. (main, start); new = λ number earlier there same. nothing_at number earlier there }
 
 -- all is followed
 clean_there : (flow : Flow) (trail : List Entry) (warnings : List Warning) (at : ℕ) → AreTold flow trail warnings at → length trail ≤ at → warnings ≡ [] → IsClean driven flow trail
@@ -121,23 +112,23 @@ clean_there flow trail warnings at so all none place entry number kind there kep
     no_told : {token : ℕ} → IsToldBy [] place token kind → ⊥
     no_told told = nothing_at told.among.number told.warning told.among.there
 
-pub safe_there : (flow : Flow) (budget : ℕ) (work : Work) (at : ℕ) → IsFlow flow → HasNoCalls flow → HaveOffsets flow → Worked flow budget work at → length work.trail ≤ at →
-    work.warnings ≡ [] → IsSafe flow work.trail
-safe_there flow budget work at valid calls offsets so all none =
-    let closed : IsClosed driven flow work.trail = closes driven flow work.trail at so.known.worked all in
+pub safe_there : (flow : Flow) (limits : Limits) (work : Work) (at : ℕ) → IsFlow flow → HasNoCalls flow → HaveOffsets flow → Worked flow limits work at → length work.trail ≤ at →
+    work.warnings ≡ [] → IsSafe flow limits work.trail
+safe_there flow limits work at valid calls offsets so all none =
+    let closed : IsClosed driven flow work.trail = closes driven (widening limits.int_limit) flow work.trail at so.known.worked all in
     let clean : IsClean driven flow work.trail = clean_there flow work.trail work.warnings at so.known.told all none in
     record {
       calls = calls;
       honest = so.known.worked.honest;
       closed = closed;
       clean = clean;
-      stays = stay_shown driven flow work.trail valid offsets calls (sound flow valid) so.known.worked.honest closed (clean_tame driven flow work.trail clean);
-      safe = λ kind place faults. safe_shown driven flow work.trail valid offsets calls (sound flow valid) so.known.worked.honest closed clean kind place faults;
+      stays = stay_shown driven (widening limits.int_limit) flow work.trail valid offsets calls (sound flow limits.int_limit valid) so.known.worked.honest closed (clean_tame driven flow work.trail clean);
+      safe = λ kind place faults. safe_shown driven (widening limits.int_limit) flow work.trail valid offsets calls (sound flow limits.int_limit valid) so.known.worked.honest closed clean kind place faults;
     }
 
 -- entries come from earlier ones
-pub from_earlier : (flow : Flow) (trail : List Entry) → AreHonest driven flow trail → AreFromEarlier trail
-from_earlier flow trail honest = record { each = λ number entry there. by_cause number entry there entry.cause refl }
+pub from_earlier : (flow : Flow) (limit : ℕ) (trail : List Entry) → AreHonest driven (widening limit) flow trail → AreFromEarlier trail
+from_earlier flow limit trail honest = record { each = λ number entry there. by_cause number entry there entry.cause refl }
   where
     within : (items : List Entry) (count number : ℕ) (item : Entry) → slice_get (take count items) number ≡ Some item → number < count
     within items zero number item there = nothing_at number item there
@@ -147,25 +138,31 @@ from_earlier flow trail honest = record { each = λ number entry there. by_cause
 
     by_cause : (number : ℕ) (entry : Entry) → At trail number entry → (cause : Cause) → entry.cause ≡ cause → IsFromEarlier cause number
     by_cause number entry there Start is = tt
+    by_cause number entry there (Fold from) is =
+        let made : Made driven (widening limit) flow (take number trail) entry (Fold from) = subst (Made driven (widening limit) flow (take number trail) entry) is (honest number entry there).made in
+        within trail number from made.earlier made.there
+    by_cause number entry there (Coarse from) is =
+        let made : Made driven (widening limit) flow (take number trail) entry (Coarse from) = subst (Made driven (widening limit) flow (take number trail) entry) is (honest number entry there).made in
+        within trail number from made.earlier made.there
     by_cause number entry there (Step from edge result loss) is =
-        let made : Made driven flow (take number trail) entry (Step from edge result loss) = subst (Made driven flow (take number trail) entry) is (honest number entry there).made in
+        let made : Made driven (widening limit) flow (take number trail) entry (Step from edge result loss) = subst (Made driven (widening limit) flow (take number trail) entry) is (honest number entry there).made in
         within trail number from made.earlier made.there
 
 -- all was followed
-closed_there : (flow : Flow) (budget : ℕ) (trail : List Entry) (complete : Bool) (next : Option Entry) → EndsSo flow budget trail complete next → complete ≡ true → IsClosed driven flow trail
-closed_there flow budget trail true None ends whole = ends
-closed_there flow budget trail true (Some next) ends whole = absurd ends
-closed_there flow budget trail false next ends whole = absurd cc
+closed_there : (flow : Flow) (limits : Limits) (trail : List Entry) (complete : Bool) (next : Option Entry) → EndsSo flow limits trail complete next → complete ≡ true → IsClosed driven flow trail
+closed_there flow limits trail true None ends whole = ends
+closed_there flow limits trail true (Some next) ends whole = absurd ends
+closed_there flow limits trail false next ends whole = absurd cc
 
 -- each fault of a run is a kind of a kept entry, and so told
-faults_told : (flow : Flow) (trail : List Entry) (warnings : List Warning) → IsFlow flow → HaveOffsets flow → HasNoCalls flow → AreHonest driven flow trail → IsClosed driven flow trail →
+faults_told : (flow : Flow) (limits : Limits) (trail : List Entry) (warnings : List Warning) → IsFlow flow → HaveOffsets flow → HasNoCalls flow → AreHonest driven (widening limits.int_limit) flow trail → IsClosed driven flow trail →
     AreTame driven flow trail → AreAllTold flow trail warnings → TellsFaults flow warnings
-faults_told flow trail warnings valid offsets calls honest closed tame all kind place faults =
-    let one : IsFaultTold driven flow trail kind place = all_told driven flow trail valid offsets calls (sound flow valid) honest closed tame kind place faults in
+faults_told flow limits trail warnings valid offsets calls honest closed tame all kind place faults =
+    let one : IsFaultTold driven flow trail kind place = all_told driven (widening limits.int_limit) flow trail valid offsets calls (sound flow limits.int_limit valid) honest closed tame kind place faults in
     subst (λ (p : Place). IsTold warnings p.at kind) (sym one.place_is) (all.told one.number one.entry one.edge kind one.there one.kept one.has)
 
 -- in order
-module _ (flow : Flow) (trail : List Entry) (raw ordered : List Warning) (so : AreInOrder trail raw ordered) where
+module _ (flow : Flow) (limits : Limits) (trail : List Entry) (raw ordered : List Warning) (so : AreInOrder trail raw ordered) where
   ordered_keeps : (place token kind : ℕ) → IsToldBy raw place token kind → IsTold ordered token kind
   ordered_keeps place token kind told =
       let there : IsTold ordered told.warning.place.at told.warning.kind =
@@ -209,11 +206,11 @@ module _ (flow : Flow) (trail : List Entry) (raw ordered : List Warning) (so : A
       let within : of_one.one.entry < length trail = slice_get_within trail of_one.one.entry named.entry named.there in
       subst (λ (w : Warning). (w.error ≡ true) ↔ IsReal trail w.entry) (sym of_one.is) (so.chained.is of_one.one.entry within)
 
-  ordered_met : IsFlow flow → HaveOffsets flow → HasNoCalls flow → IsExclusive flow → AreHonest driven flow trail → AreWarnings flow trail raw → AreErrorsMet flow ordered
+  ordered_met : IsFlow flow → HaveOffsets flow → HasNoCalls flow → IsExclusive flow → AreHonest driven (widening limits.int_limit) flow trail → AreWarnings flow trail raw → AreErrorsMet flow ordered
   ordered_met valid offsets calls exclusive honest each warning among error =
       let named : IsWarning flow trail warning = warning_marked each warning among in
       subst (λ (p : Place). RunFaults flow warning.kind p) (sym named.place_is)
-      (error_met driven alike_runs flow trail valid offsets calls exclusive (exact flow valid) honest warning.entry named.entry warning.edge warning.kind named.has.edge
+      (error_met driven (widening limits.int_limit) alike_runs flow trail valid offsets calls exclusive (exact flow valid) honest warning.entry named.entry warning.edge warning.kind named.has.edge
       ((error_is each warning among).0 error) named.there named.has.stands named.has)
 
   ordered_all : (at : ℕ) → AreTold flow trail raw at → length trail ≤ at → AreAllTold flow trail ordered
@@ -223,9 +220,9 @@ module _ (flow : Flow) (trail : List Entry) (raw ordered : List Warning) (so : A
         ordered_keeps place has.edge.place.at kind (told.told place entry number kind (omega arith) there kept has);
   }
 
-  pub warned : (budget at : ℕ) (complete : Bool) (next : Option Entry) → IsFlow flow → HaveOffsets flow → IsExclusive flow → HasNoCalls flow → AreHonest driven flow trail → (raw ≡ [] → ⊥) →
-      AreWarnings flow trail raw → AreTold flow trail raw at → length trail ≤ at → EndsSo flow budget trail complete next → IsWarned flow budget ordered trail complete next
-  warned budget at complete next valid offsets exclusive calls honest some each told all ends = record {
+  pub warned : (at : ℕ) (complete : Bool) (next : Option Entry) → IsFlow flow → HaveOffsets flow → IsExclusive flow → HasNoCalls flow → AreHonest driven (widening limits.int_limit) flow trail → (raw ≡ [] → ⊥) →
+      AreWarnings flow trail raw → AreTold flow trail raw at → length trail ≤ at → EndsSo flow limits trail complete next → IsWarned flow limits ordered trail complete next
+  warned at complete next valid offsets exclusive calls honest some each told all ends = record {
     calls = calls;
     honest = honest;
     some = ordered_some some;
@@ -240,7 +237,7 @@ module _ (flow : Flow) (trail : List Entry) (raw ordered : List Warning) (so : A
     };
     met = ordered_met valid offsets calls exclusive honest each;
     ends = ends;
-    tells = λ whole tame. faults_told flow trail ordered valid offsets calls honest (closed_there flow budget trail complete next ends whole) tame (ordered_all at told all);
+    tells = λ whole tame. faults_told flow limits trail ordered valid offsets calls honest (closed_there flow limits trail complete next ends whole) tame (ordered_all at told all);
   }
 
 in_there : (trail : List Entry) (warnings ordered : List Warning) (trail' : List Entry) (raw : List Warning) → trail' ≡ trail → raw ≡ warnings → AreInOrder trail' raw ordered →
@@ -248,39 +245,39 @@ in_there : (trail : List Entry) (warnings ordered : List Warning) (trail' : List
 in_there trail warnings ordered trail' raw same same' put = subst (λ (ws : List Warning). AreInOrder trail ws ordered) same' (subst (λ (t : List Entry). AreInOrder t raw ordered) same put)
 
 -- all of it, or up to where it ended
-pub warned_there : (flow : Flow) (budget : ℕ) (work : Work) (at : ℕ) (trail : List Entry) (raw ordered : List Warning) → IsFlow flow → HaveOffsets flow → IsExclusive flow → HasNoCalls flow →
-    Worked flow budget work at → length work.trail ≤ at → (work.warnings ≡ [] → ⊥) → trail ≡ work.trail → raw ≡ work.warnings → AreInOrder trail raw ordered →
-    IsWarned flow budget ordered work.trail true None
-warned_there flow budget work at trail raw ordered valid offsets exclusive calls so all some same same' put =
-    warned flow work.trail work.warnings ordered (in_there work.trail work.warnings ordered trail raw same same' put) budget at true None valid offsets exclusive calls
-    so.known.worked.honest some so.known.warnings so.known.told all (closes driven flow work.trail at so.known.worked all)
+pub warned_there : (flow : Flow) (limits : Limits) (work : Work) (at : ℕ) (trail : List Entry) (raw ordered : List Warning) → IsFlow flow → HaveOffsets flow → IsExclusive flow → HasNoCalls flow →
+    Worked flow limits work at → length work.trail ≤ at → (work.warnings ≡ [] → ⊥) → trail ≡ work.trail → raw ≡ work.warnings → AreInOrder trail raw ordered →
+    IsWarned flow limits ordered work.trail true None
+warned_there flow limits work at trail raw ordered valid offsets exclusive calls so all some same same' put =
+    warned flow limits work.trail work.warnings ordered (in_there work.trail work.warnings ordered trail raw same same' put) at true None valid offsets exclusive calls
+    so.known.worked.honest some so.known.warnings so.known.told all (closes driven (widening limits.int_limit) flow work.trail at so.known.worked all)
 
 -- it ended before
-pub warned_halted : (flow : Flow) (budget : ℕ) (work : Work) (at : ℕ) (next : Entry) (trail : List Entry) (raw ordered : List Warning) → IsFlow flow → HaveOffsets flow → IsExclusive flow →
-    HasNoCalls flow → IsResting flow budget work at (length work.trail) → work.next ≡ Some next → (work.warnings ≡ [] → ⊥) → trail ≡ work.trail → raw ≡ work.warnings → AreInOrder trail raw ordered →
-    IsWarned flow budget ordered work.trail false (Some next)
-warned_halted flow budget work at next trail raw ordered valid offsets exclusive calls so is some same same' put =
-    warned flow work.trail work.warnings ordered (in_there work.trail work.warnings ordered trail raw same same' put) budget (length work.trail) false (Some next) valid offsets exclusive calls
-    so.halted.known.worked.honest some so.halted.known.warnings so.told (omega arith) (subst (λ (n : Option Entry). IsWhy flow budget work.trail at n) is so.halted.why)
+pub warned_halted : (flow : Flow) (limits : Limits) (work : Work) (at : ℕ) (next : Entry) (trail : List Entry) (raw ordered : List Warning) → IsFlow flow → HaveOffsets flow → IsExclusive flow →
+    HasNoCalls flow → IsResting flow limits work at (length work.trail) → work.next ≡ Some next → (work.warnings ≡ [] → ⊥) → trail ≡ work.trail → raw ≡ work.warnings → AreInOrder trail raw ordered →
+    IsWarned flow limits ordered work.trail false (Some next)
+warned_halted flow limits work at next trail raw ordered valid offsets exclusive calls so is some same same' put =
+    warned flow limits work.trail work.warnings ordered (in_there work.trail work.warnings ordered trail raw same same' put) (length work.trail) false (Some next) valid offsets exclusive calls
+    so.halted.known.honest some so.halted.known.warnings so.told (omega arith) (subst (λ (n : Option Entry). IsWhy flow limits work.trail at n) is so.halted.why)
 
-pub spent_halted : (flow : Flow) (budget : ℕ) (work : Work) (at : ℕ) (next : Entry) → HasNoCalls flow → IsResting flow budget work at (length work.trail) → work.next ≡ Some next →
-    work.warnings ≡ [] → IsSpent flow budget work.trail next
-spent_halted flow budget work at next calls so is none = record {
+pub spent_halted : (flow : Flow) (limits : Limits) (work : Work) (at : ℕ) (next : Entry) → HasNoCalls flow → IsResting flow limits work at (length work.trail) → work.next ≡ Some next →
+    work.warnings ≡ [] → IsSpent flow limits work.trail next
+spent_halted flow limits work at next calls so is none = record {
   calls = calls;
-  honest = so.halted.known.worked.honest;
+  honest = so.halted.known.honest;
   clean = clean_there flow work.trail work.warnings (length work.trail) so.told (omega arith) none;
-  next_is = subst (λ (n : Option Entry). IsWhy flow budget work.trail at n) is so.halted.why;
+  next_is = subst (λ (n : Option Entry). IsWhy flow limits work.trail at n) is so.halted.why;
 }
 
-pub large_halted : (flow : Flow) (budget : ℕ) (work : Work) (at which : ℕ) → HasNoCalls flow → IsResting flow budget work at which → work.next ≡ None → IsLarge flow work.trail (Some at)
-large_halted flow budget work at which calls so is = record {
+pub large_halted : (flow : Flow) (limits : Limits) (work : Work) (at which : ℕ) → HasNoCalls flow → IsResting flow limits work at which → work.next ≡ None → IsLarge flow limits work.trail (Some at)
+large_halted flow limits work at which calls so is = record {
   calls = calls;
-  honest = so.halted.known.worked.honest;
-  large = subst (λ (n : Option Entry). IsWhy flow budget work.trail at n) is so.halted.why;
+  honest = so.halted.known.honest;
+  large = subst (λ (n : Option Entry). IsWhy flow limits work.trail at n) is so.halted.why;
 }
 
-pub large_ended : (flow : Flow) (trail : List Entry) (which : ℕ) → HasNoCalls flow → IsEnded flow trail which → IsLarge flow trail (Some which)
-large_ended flow trail which calls so = record { calls = calls; honest = so.honest; large = so.large }
+pub large_ended : (flow : Flow) (limits : Limits) (trail : List Entry) (which : ℕ) → HasNoCalls flow → IsEnded flow limits trail which → IsLarge flow limits trail (Some which)
+large_ended flow limits trail which calls so = record { calls = calls; honest = so.honest; large = so.large }
 
-pub large_start : (flow : Flow) → HasNoCalls flow → 33554432 ≤ length flow.variables → IsLarge flow [] None
-large_start flow calls large = record { calls = calls; honest = λ number entry there. nothing_at number entry there; large = large }
+pub large_start : (flow : Flow) (limits : Limits) → HasNoCalls flow → 33554432 ≤ length flow.variables → IsLarge flow limits [] None
+large_start flow limits calls large = record { calls = calls; honest = λ number entry there. nothing_at number entry there; large = large }

@@ -33,8 +33,17 @@ use Rattle.edge_steps.specs.Seen as edges
 use Rattle.edge_steps.proofs.SeenSteps.{seen_steps}
 use Rattle.transfer.specs.Fitting.{MayFollow}
 use Rattle.transfer.specs.Laws.{IsBegunAlike}
+use Rattle.transfer.specs.Through.{goes_through}
+use Rattle.transfer.proofs.AlongMeans.{along_regions, regions_kept, regions_place}
+use Rattle.transfer.proofs.Ready.{none_named}
 use Rattle.transfer.proofs.Sound.{seen_state}
 use Rattle.transfer.proofs.StartExact.{start_exact}
+use Rattle.transfer.proofs.StartSound.{start_regions}
+use Rattle.transfer.specs.OfRegions.{AreOfRegions}
+use Rattle.tidying.specs.Fits.{FitsAs}
+use Rattle.tidying.specs.Tidied.{tidied}
+use Rattle.tidying.proofs.Fits.{tidied_fits}
+use Rattle.heap_steps.specs.Regions.{AreRegions}
 use Rattle.alike_steps.specs.Laws.{GoesAlike}
 use Rattle.alike_steps.proofs.Alike.{edges_go_alike}
 use Rattle.tidying.proofs.Kept.{tidied_means}
@@ -72,23 +81,24 @@ region_nodes (first ∷ rest) all =
     let later = region_nodes rest (and_right (is_region first.object.shape) (list_all (λ (entry : KeyedObject). is_region entry.object.shape) rest) all) in
     omega arith
 
-room_for_one : (flow : Flow) (point : ℕ) (graph : Parts) → IsPlaced flow point graph → nodes graph + 1 < 2 ^ 30
-room_for_one flow point graph placed =
+room_for_one : (flow : Flow) (point : ℕ) (graph : Parts) → IsPlaced flow point graph → AreRegions graph.objects → nodes graph + 1 < 2 ^ 30
+room_for_one flow point graph placed regions =
     let few : length graph.objects < 1000000000 = ltb-true (length graph.objects) 1000000000 placed.small in
-    let count : nodes graph ≡ length graph.objects = region_nodes graph.objects placed.fits.regions in
+    let count : nodes graph ≡ length graph.objects = region_nodes graph.objects regions in
     omega arith
 
 -- an edge of the flow graph, along which a post leads
 module _ (flow : Flow) (valid : IsFlow flow) (number : ℕ) (edge : FlowEdge) (stands : slice_get flow.edges number ≡ Some edge) where
   -- its instruction may follow where a graph fits
-  may_follow : (graph : Parts) → IsPlaced flow edge.from graph → MayFollow flow edge.from edge.instr graph
-  may_follow graph placed = record {
+  may_follow : (graph : Parts) → IsPlaced flow edge.from graph → AreRegions graph.objects → MayFollow flow edge.from edge.instr graph
+  may_follow graph placed regions = record {
     fits = placed.fits;
     reads = at_number (λ (e : FlowEdge). IsTrue (reads_what_stands flow (stands_at flow e.from) e.instr)) flow.edges number edge valid.reads stands;
     sizes = at_number (λ (e : FlowEdge). IsTrue (has_sizes e.instr)) flow.edges number edge valid.sizes stands;
     tests = at_number (λ (e : FlowEdge). IsTrue (tests_one_size (stands_at flow e.from) e.instr)) flow.edges number edge valid.tests stands;
     scope = at_number (λ (e : FlowEdge). IsTrue (has_scope flow (stands_at flow e.from) e.instr)) flow.edges number edge valid.scopes stands;
     variables = valid.variable_sizes;
+    through = none_named graph regions placed.graph_is (goes_through edge.instr);
   }
 
   -- a state of a run stands where it begins
@@ -101,7 +111,7 @@ module _ (flow : Flow) (valid : IsFlow flow) (number : ℕ) (edge : FlowEdge) (s
     runs = of.run;
   }
 
-  module _ (graph : Parts) (post : Post) (placed : IsPlaced flow edge.from graph) (is : IsPostThere flow number graph post) where
+  module _ (graph : Parts) (post : Post) (placed : IsPlaced flow edge.from graph) (regions : AreRegions graph.objects) (is : IsPostThere flow number graph post) where
     post_is : IsPostOf flow edge graph post
     post_is = along flow number edge graph post stands is
 
@@ -112,7 +122,7 @@ module _ (flow : Flow) (valid : IsFlow flow) (number : ℕ) (edge : FlowEdge) (s
         let here : IsAtEdge flow edge state = at_edge graph post state is of point in
         let goes : GoesAlike (EdgeSteps flow (sizes_at flow edge.from) edge.instr) (edges.seen [] state) follows.next' =
         edges_go_alike.steps flow edge.from edge.instr graph post_is.whole near.there near.back near.paired follows.state (edges.seen [] state) follows.next'
-        placed.graph_is (may_follow graph placed) post_is.is.is (sym post_is.left.loss ∙ none)
+        placed.graph_is (may_follow graph placed regions) (along_regions flow edge graph post_is.whole placed.graph_is regions post_is.is) (sym post_is.left.loss ∙ none)
         follows.is (seen_state flow edge state here of.callers of.outer) follows.stands near.alike follows.steps in
         let gone : GoesTo flow edge [] state [] goes.next' = seen_steps.back flow edge [] state goes.next' [] here goes.steps in
         record {
@@ -135,15 +145,24 @@ module _ (flow : Flow) (valid : IsFlow flow) (number : ℕ) (edge : FlowEdge) (s
         let one : IsOne post_is.whole.graphs result after = one_of post_is.whole.graphs result after (sym (ap (λ (gs : List Parts). slice_get gs result) post_is.left.graphs.same) ∙ there) in
         let whole_is : IsGraph one.graph = at_number IsGraph post_is.whole.graphs result one.graph post_is.left.graphs.are one.there in
         let follows : FollowsAlike graph (EdgeSteps flow (sizes_at flow edge.from) edge.instr) next =
-        post_is.is.means.exact_of_regions.exact (sym post_is.left.loss ∙ none) placed.fits.regions one.graph next (contained post_is.whole.graphs result one.graph one.there) fine
+        post_is.is.means.exact_of_regions.exact (sym post_is.left.loss ∙ none) regions one.graph next (contained post_is.whole.graphs result one.graph one.there) fine
         ((tidied_means one.graph whole_is next).0 (subst (λ (g : Parts). StandsFor g next) one.is stand)) in
         record { before = follows.state; is = follows.is; stands = follows.stands; goes = goes_near next follows none }
+
+    -- what comes of a graph of regions is one
+    leads : (result : ℕ) (after : Parts) → slice_get post.graphs result ≡ Some after → AreRegions after.objects
+    leads result after there =
+        let one : IsOne post_is.whole.graphs result after = one_of post_is.whole.graphs result after (sym (ap (λ (gs : List Parts). slice_get gs result) post_is.left.graphs.same) ∙ there) in
+        let whole_is : IsGraph one.graph = at_number IsGraph post_is.whole.graphs result one.graph post_is.left.graphs.are one.there in
+        let kept : AreOfRegions post_is.whole.graphs = regions_kept flow edge.instr graph placed.graph_is regions post_is.whole post_is.is.is in
+        let same : FitsAs one.graph (tidied one.graph) = tidied_fits one.graph whole_is in
+        subst (λ (g : Parts). AreRegions g.objects) (sym one.is) (same.regions (kept.each result one.graph one.there))
 
     -- and each kind of a post is met near some state
     faulting : (kind : ℕ) → Contains post.kinds kind → IsFaulting alike_runs flow number edge graph kind
     faulting kind has =
         let some : SomeFaults graph (EdgeFaults edge.instr kind) =
-        post_is.is.means.through_any (room_for_one flow edge.from graph placed) kind (subst (λ (kinds : List ℕ). Contains kinds kind) post_is.left.kinds has) in
+        post_is.is.means.through_any (regions_place flow edge.instr graph placed.graph_is regions (room_for_one flow edge.from graph placed regions)) kind (subst (λ (kinds : List ℕ). Contains kinds kind) post_is.left.kinds has) in
         record {
           before = some.state;
           is = some.is;
@@ -160,6 +179,8 @@ exact flow valid = record {
   start = λ graph next is fine stands.
       let begun : IsBegunAlike flow next = start_exact flow graph next valid is fine stands in
       record { begun = begun.begun; choices = begun.choices; goes = begun.goes; near = record { there = begun.there; back = begun.back; paired = begun.paired; alike = begun.alike } };
-  steps = λ number edge graph post result after next stands placed is none there fine stand. led_to flow valid number edge stands graph post placed is result after next none there fine stand;
-  faults = λ number edge graph post kind stands placed is has. faulting flow valid number edge stands graph post placed is kind has;
+  steps = λ number edge graph post result after next stands placed regions is none there fine stand. led_to flow valid number edge stands graph post placed regions is result after next none there fine stand;
+  faults = λ number edge graph post kind stands placed regions is has. faulting flow valid number edge stands graph post placed regions is kind has;
+  begins = λ graph is. subst (λ (g : Parts). AreRegions g.objects) (sym is.is) (start_regions flow valid (subst IsGraph is.is is.graph));
+  leads = λ number edge graph post result after stands placed regions is none there. leads flow valid number edge stands graph post placed regions is result after there;
 }

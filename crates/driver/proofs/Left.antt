@@ -53,7 +53,6 @@ fits_one flow point graph graph_is fits =
       variables = λ variable. same.variables variable ∙ fits.variables variable;
       registers = λ register. same.registers register ∙ fits.registers register;
       ports = same.without_ports fits.ports;
-      regions = same.regions fits.regions;
     }
 
 pub fits_left : (flow : Flow) (point : ℕ) (whole post : Post) → IsLeft whole post → FitAt flow point whole.graphs → FitAt flow point post.graphs

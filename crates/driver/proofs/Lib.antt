@@ -4,6 +4,7 @@ pub mod Walked
 pub mod Slotted
 pub mod Masked
 pub mod Booked
+pub mod Looked
 pub mod Counted
 pub mod Told
 pub mod Leading

@@ -12,12 +12,13 @@ use Rattle.trail.specs.Trail.{At, HasKind}
 use Rattle.trail.proofs.Sound.{same_some}
 use Rattle.driver.proofs.Leading.{Passes}
 use Rattle.driver.specs.declared.verdict.Warning.{Warning}
+use Rattle.driver.specs.declared.verdict.Limits.{Limits}
 use Rattle.driver.specs.declared.work.Work.{Work}
 use Rattle.driver.specs.Leaving.{IsPostOf}
 use Rattle.driver.specs.Driven.{driven}
 use Rattle.driver.proofs.Left.{kinds_left}
 use Rattle.driver.specs.Telling.{IsToldBy, AreWarnings, AreKindsTold, AreTold, AreNoted}
-use Rattle.driver.specs.Looping.{leads, is_marked, is_kept, point_in, point_of, IsKnown, OnEntry, IsPostAt, IsLargeAt, IsHalted, IsEntryAt, IsResting, OnRest, IsEnded}
+use Rattle.driver.specs.Looping.{leads, is_marked, is_kept, point_in, point_of, IsToldOf, OnEntry, IsPostAt, IsLargeAt, IsHalted, IsEntryAt, IsResting, OnRest, IsEnded}
 
 clash : {A : Type 0} (b : Bool) → b ≡ true → b ≡ false → A
 clash b x y = cc
@@ -69,20 +70,20 @@ warnings_noted flow trail warnings ws place entry point number edge post there k
       ];
     }
 
-pub on_rest_noted : (flow : Flow) (budget : ℕ) (before after : Work) (at which point number : ℕ) (edge : FlowEdge) (post : Post) (kinds : List ℕ) (ws : List Warning) →
-    OnRest flow budget before at which point number → slice_get flow.edges number ≡ Some edge → leads point edge ≡ true → IsPostAt flow before.trail which edge post → kinds ≡ post.kinds →
-    AreNoted before.warnings ws edge.place which number kinds (length kinds) → after ≡ record before { warnings = ws } → OnRest flow budget after at which point (number + 1)
-on_rest_noted flow budget before after at which point number edge post kinds ws on stands leads post_at same_kinds noted' is =
+pub on_rest_noted : (flow : Flow) (limits : Limits) (before after : Work) (at which point number : ℕ) (edge : FlowEdge) (post : Post) (kinds : List ℕ) (ws : List Warning) →
+    OnRest flow limits before at which point number → slice_get flow.edges number ≡ Some edge → leads point edge ≡ true → IsPostAt flow before.trail which edge post → kinds ≡ post.kinds →
+    AreNoted before.warnings ws edge.place which number kinds (length kinds) → after ≡ record before { warnings = ws } → OnRest flow limits after at which point (number + 1)
+on_rest_noted flow limits before after at which point number edge post kinds ws on stands leads post_at same_kinds noted' is =
     let noted : AreNoted before.warnings ws edge.place which number post.kinds (length post.kinds) =
     subst (λ (ks : List ℕ). AreNoted before.warnings ws edge.place which number ks (length ks)) same_kinds noted' in
     let one : post_at.entry ≡ on.is.entry = same_some post_at.entry on.is.entry (sym post_at.there ∙ on.is.there) in
     let post_is : IsPostOf flow edge on.is.entry.graph post = subst (λ (e : Entry). IsPostOf flow edge e.graph post) one post_at.is in
-    let known : IsKnown flow budget before at = on.resting.halted.known in
-    subst (λ (work : Work). OnRest flow budget work at which point (number + 1)) (sym is) (record {
+    let known : IsToldOf flow limits before at = on.resting.halted.known in
+    subst (λ (work : Work). OnRest flow limits work at which point (number + 1)) (sym is) (record {
       resting = record {
         halted = record {
           known = record {
-            worked = known.worked;
+            honest = known.honest;
             booked = record { peers = known.booked.peers; counts = known.booked.counts; kept = known.booked.kept; within = known.booked.within };
             points = known.points;
             warnings = warnings_noted flow before.trail before.warnings ws which on.is.entry point number edge post on.is.there on.is.kept on.is.point_is stands leads post_is noted known.warnings;
@@ -97,21 +98,21 @@ on_rest_noted flow budget before after at which point number edge post kinds ws 
     })
 
 -- entries
-pub entry_of : (flow : Flow) (budget : ℕ) (work : Work) (at point number : ℕ) → OnEntry flow budget work at point number → IsEntryAt flow work.trail at point
-entry_of flow budget work at point number on =
+pub entry_of : (flow : Flow) (limits : Limits) (work : Work) (at point number : ℕ) → OnEntry flow limits work at point number → IsEntryAt flow limits work.trail at point
+entry_of flow limits work at point number on =
     record { honest = on.on.known.worked.honest; entry = on.on.entry; there = on.on.there; kept = on.on.kept; point_is = on.on.point_is }
 
-pub rest_entry : (flow : Flow) (budget : ℕ) (work : Work) (at which point number : ℕ) → OnRest flow budget work at which point number → IsEntryAt flow work.trail which point
-rest_entry flow budget work at which point number on = on.is
+pub rest_entry : (flow : Flow) (limits : Limits) (work : Work) (at which point number : ℕ) → OnRest flow limits work at which point number → IsEntryAt flow limits work.trail which point
+rest_entry flow limits work at which point number on = on.is
 
-pub rest_ended : (flow : Flow) (budget : ℕ) (work : Work) (at which point number : ℕ) → OnRest flow budget work at which point number → IsLargeAt work.trail which → IsEnded flow work.trail which
-rest_ended flow budget work at which point number on large = record { honest = on.is.honest; large = large }
+pub rest_ended : (flow : Flow) (limits : Limits) (work : Work) (at which point number : ℕ) → OnRest flow limits work at which point number → IsLargeAt work.trail which → IsEnded flow limits work.trail which
+rest_ended flow limits work at which point number on large = record { honest = on.is.honest; large = large }
 
 -- edges that do not lead from the entry
-pub on_rest_past : (flow : Flow) (budget : ℕ) (work : Work) (at which point number more : ℕ) → OnRest flow budget work at which point number → number ≤ more →
+pub on_rest_past : (flow : Flow) (limits : Limits) (work : Work) (at which point number more : ℕ) → OnRest flow limits work at which point number → number ≤ more →
     ((other : ℕ) (edge : FlowEdge) → number ≤ other → other < more → slice_get flow.edges other ≡ Some edge → is_ordinary edge.instr ≡ true → edge.from ≡ point → ⊥) →
-    OnRest flow budget work at which point more
-on_rest_past flow budget work at which point number more on past none = record {
+    OnRest flow limits work at which point more
+on_rest_past flow limits work at which point number more on past none = record {
   resting = on.resting;
   is = on.is;
   here = record {
@@ -127,36 +128,36 @@ on_rest_past flow budget work at which point number more on past none = record {
         let one : edge ≡ other = same_some edge other (sym there ∙ there') in
         ap (λ (e : FlowEdge). e.from) (sym one) ∙ (from ∙ on.is.point_is)
 
-pub rest_passes : (flow : Flow) (budget : ℕ) (work : Work) (at which point : ℕ) → Passes flow (λ number. OnRest flow budget work at which point number) point
-rest_passes flow budget work at which point = record { past = λ number more on past none. on_rest_past flow budget work at which point number more on past none }
+pub rest_passes : (flow : Flow) (limits : Limits) (work : Work) (at which point : ℕ) → Passes flow (λ number. OnRest flow limits work at which point number) point
+rest_passes flow limits work at which point = record { past = λ number more on past none. on_rest_past flow limits work at which point number more on past none }
 
-pub on_rest_skip : (flow : Flow) (budget : ℕ) (work : Work) (at which point number : ℕ) (edge : FlowEdge) → OnRest flow budget work at which point number →
-    slice_get flow.edges number ≡ Some edge → leads point edge ≡ false → OnRest flow budget work at which point (number + 1)
-on_rest_skip flow budget work at which point number edge on stands leads = on_rest_past flow budget work at which point number (number + 1) on (omega arith) (λ other edge' late below stands' ordinary from.
+pub on_rest_skip : (flow : Flow) (limits : Limits) (work : Work) (at which point number : ℕ) (edge : FlowEdge) → OnRest flow limits work at which point number →
+    slice_get flow.edges number ≡ Some edge → leads point edge ≡ false → OnRest flow limits work at which point (number + 1)
+on_rest_skip flow limits work at which point number edge on stands leads = on_rest_past flow limits work at which point number (number + 1) on (omega arith) (λ other edge' late below stands' ordinary from.
     let same : other ≡ number = omega arith in
     let one : edge ≡ edge' = same_some edge edge' (sym stands ∙ (ap (slice_get flow.edges) (sym same) ∙ stands')) in
     let from' : point ≡ edge.from = sym from ∙ ap (λ (e : FlowEdge). e.from) (sym one) in
     let ordinary' : is_ordinary edge.instr ≡ true = ap (λ (e : FlowEdge). is_ordinary e.instr) one ∙ ordinary in
     clash (nat_eq point edge.from && is_ordinary edge.instr) (and_from (nat_eq point edge.from) (is_ordinary edge.instr) (eq-eqb point edge.from from') ordinary') leads)
 
-pub resting_first : (flow : Flow) (budget : ℕ) (work : Work) (at : ℕ) → IsHalted flow budget work at → IsResting flow budget work at at
-resting_first flow budget work at halted = record { halted = halted; told = halted.known.told }
+pub resting_first : (flow : Flow) (limits : Limits) (work : Work) (at : ℕ) → IsHalted flow limits work at → IsResting flow limits work at at
+resting_first flow limits work at halted = record { halted = halted; told = halted.known.told }
 
-pub resting_last : (flow : Flow) (budget : ℕ) (work : Work) (at which : ℕ) → IsResting flow budget work at which → length work.trail ≤ which → IsResting flow budget work at (length work.trail)
-resting_last flow budget work at which so all = record {
+pub resting_last : (flow : Flow) (limits : Limits) (work : Work) (at which : ℕ) → IsResting flow limits work at which → length work.trail ≤ which → IsResting flow limits work at (length work.trail)
+resting_last flow limits work at which so all = record {
   halted = so.halted;
   told = record { told = λ place entry number kind below there kept has. so.told.told place entry number kind (omega arith) there kept has };
 }
 
-pub on_rest_first : (flow : Flow) (budget : ℕ) (work : Work) (at which : ℕ) → IsResting flow budget work at which → is_kept work.trail which ≡ true →
-    OnRest flow budget work at which (point_of work.trail which) 0
-on_rest_first flow budget work at which so kept = by_entry (slice_get work.trail which) refl kept
+pub on_rest_first : (flow : Flow) (limits : Limits) (work : Work) (at which : ℕ) → IsResting flow limits work at which → is_kept work.trail which ≡ true →
+    OnRest flow limits work at which (point_of work.trail which) 0
+on_rest_first flow limits work at which so kept = by_entry (slice_get work.trail which) refl kept
   where
-    by_entry : (one : Option Entry) → slice_get work.trail which ≡ one → is_marked one ≡ true → OnRest flow budget work at which (point_of work.trail which) 0
+    by_entry : (one : Option Entry) → slice_get work.trail which ≡ one → is_marked one ≡ true → OnRest flow limits work at which (point_of work.trail which) 0
     by_entry None there kept = absurd cc
     by_entry (Some entry) there kept = record {
       resting = so;
-      is = record { honest = so.halted.known.worked.honest; entry = entry; there = there; kept = kept; point_is = sym (ap point_in there) };
+      is = record { honest = so.halted.known.honest; entry = entry; there = there; kept = kept; point_is = sym (ap point_in there) };
       here = record { told = λ number kind below has. absurd (omega arith) };
     }
 
@@ -171,16 +172,16 @@ told_next flow trail warnings which so here = record {
   ];
 }
 
-pub resting_next : (flow : Flow) (budget : ℕ) (work : Work) (at which point : ℕ) → OnRest flow budget work at which point (length flow.edges) → IsResting flow budget work at (which + 1)
-resting_next flow budget work at which point on = record {
+pub resting_next : (flow : Flow) (limits : Limits) (work : Work) (at which point : ℕ) → OnRest flow limits work at which point (length flow.edges) → IsResting flow limits work at (which + 1)
+resting_next flow limits work at which point on = record {
   halted = on.resting.halted;
   told = told_next flow work.trail work.warnings which on.resting.told (λ entry there kept.
       let one : on.is.entry ≡ entry = same_some on.is.entry entry (sym on.is.there ∙ there) in
       subst (λ (e : Entry). AreKindsTold flow work.warnings which e (length flow.edges)) one on.here);
 }
 
-pub resting_skip : (flow : Flow) (budget : ℕ) (work : Work) (at which : ℕ) → IsResting flow budget work at which → is_kept work.trail which ≡ false → IsResting flow budget work at (which + 1)
-resting_skip flow budget work at which so not_kept = record {
+pub resting_skip : (flow : Flow) (limits : Limits) (work : Work) (at which : ℕ) → IsResting flow limits work at which → is_kept work.trail which ≡ false → IsResting flow limits work at (which + 1)
+resting_skip flow limits work at which so not_kept = record {
   halted = so.halted;
   told = told_next flow work.trail work.warnings which so.told (λ entry there kept. clash entry.kept kept (sym (ap is_marked there) ∙ not_kept));
 }

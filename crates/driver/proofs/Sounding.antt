@@ -4,6 +4,8 @@ use Rattle.std.specs.Prelude.{true, slice_get, Contains}
 use Rattle.graph.specs.declared.parts.Parts.{Parts}
 use Rattle.graph.specs.declared.post.Post.{Post}
 use Rattle.graph.specs.Whole.{IsGraph}
+use Rattle.graph.specs.Meaning.{StandsFor}
+use Rattle.coarse.proofs.Means.{left_stands}
 use Rattle.cover.proofs.Free.{covers-stands}
 use Rattle.flow.specs.declared.flow_graph.Flow.{Flow}
 use Rattle.flow.specs.declared.flow_graph.FlowEdge.{FlowEdge}
@@ -21,7 +23,7 @@ use Rattle.tidying.proofs.Kept.{tidied_means}
 use Rattle.trail.proofs.Sound.{same_some, at_number}
 use Rattle.driver.specs.Leaving.{IsPostOf}
 use Rattle.driver.proofs.Left.{left_there}
-use Rattle.driver.specs.Driven.{driven, IsPostThere}
+use Rattle.driver.specs.Driven.{driven, widening, IsPostThere}
 
 pub along : (flow : Flow) (number : ℕ) (edge : FlowEdge) (graph : Parts) (post : Post) → slice_get flow.edges number ≡ Some edge → IsPostThere flow number graph post → IsPostOf flow edge graph post
 along flow number edge graph post stands is = subst (λ (e : FlowEdge). IsPostOf flow e graph post) (same_some is.edge edge (sym is.stands ∙ stands)) is.is
@@ -55,8 +57,8 @@ ordinary_there Close is = is
 of_there : (flow : Flow) (state : State) → IsOf flow state → laws.IsOf flow state
 of_there flow state is = record { run = is.run; callers = is.callers; outer = is.outer }
 
-pub sound : (flow : Flow) → IsFlow flow → IsSound driven flow
-sound flow valid = record {
+pub sound : (flow : Flow) (limit : ℕ) → IsFlow flow → IsSound driven (widening limit) flow
+sound flow limit valid = record {
   start = λ graph state choices rest is goes. start_stands flow graph state choices rest valid is goes;
   steps = λ number edge graph post state next stands ordinary fits is tame of here steps.
       let post_is : IsPostOf flow edge graph post = along flow number edge graph post stands is in
@@ -75,4 +77,7 @@ sound flow valid = record {
       (post_has flow number edge graph post_is.whole state kind valid stands (ordinary_there edge.instr ordinary) post_is.is (of_there flow state of) here faults);
   covers = λ point wide narrow state fits covers here.
       covers-stands wide narrow fits.graph_is.well_formed fits.graph_is.within_limits covers (seen state) here.given here.meets;
+  folds = λ point graph after state fits is here. is.means (seen state) here;
+  coarsens = λ point graph after state fits is here.
+      subst (λ (g : Parts). StandsFor g (seen state)) (sym is.is) (left_stands limit graph fits.graph_is (seen state) here);
 }

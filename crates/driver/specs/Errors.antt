@@ -2,6 +2,7 @@
 use Rattle.std.specs.Prelude.{◌≡◌, ℕ, ◌↔◌, Bool, true, List}
 use Rattle.graph.specs.AlikeStates.{AreAlikeStates}
 use Rattle.graph.specs.State as graphs
+use Rattle.heap_steps.specs.Regions.{AreRegions}
 use Rattle.flow.specs.declared.flow_graph.Flow.{Flow}
 use Rattle.flow.specs.Machine.{State}
 use Rattle.flow.specs.Runs.{RunFaults}
@@ -34,8 +35,9 @@ pub record IsAlikeRun (wanted : graphs.State) (state : State) : Type 0 where
   pub paired : ℕ → Bool
   pub alike : AreAlikeStates there back paired wanted (seen state)
 
+-- so it is of graphs of regions
 abbrev pub alike_runs : Nearness
-alike_runs = record { is = λ wanted state. IsAlikeRun wanted state }
+alike_runs = record { is = λ wanted state. IsAlikeRun wanted state; sharp = λ graph. AreRegions graph.objects }
 
 -- some run meets each error
 abbrev pub AreErrorsMet : Flow → List Warning → Type 0

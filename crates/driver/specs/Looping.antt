@@ -11,9 +11,10 @@ use Rattle.trail.specs.declared.trail.Entry.{Entry}
 use Rattle.trail.specs.Seen.{is_ordinary}
 use Rattle.trail.specs.Trail.{At, IsHonest, AreHonest}
 use Rattle.trail.specs.Work.{IsWorked, AreEdgesDone, AreResultsDone, AreBefore}
+use Rattle.driver.specs.declared.verdict.Limits.{Limits}
 use Rattle.driver.specs.declared.work.Work.{Work}
 use Rattle.driver.specs.Leaving.{IsPostOf}
-use Rattle.driver.specs.Driven.{driven}
+use Rattle.driver.specs.Driven.{driven, widening}
 use Rattle.driver.specs.Growing.{kept_count, IsBooked}
 use Rattle.driver.specs.Telling.{AreWarnings, AreKindsTold, AreTold}
 
@@ -41,32 +42,32 @@ abbrev pub point_of : List Entry → ℕ → ℕ
 point_of trail at = point_in (slice_get trail at)
 
 -- what is known where all entries before one are followed
-pub record IsKnown (flow : Flow) (budget : ℕ) (work : Work) (at : ℕ) : Type 0 where
-  pub worked : IsWorked driven flow work.trail at
-  pub booked : IsBooked budget work
+pub record IsKnown (flow : Flow) (limits : Limits) (work : Work) (at : ℕ) : Type 0 where
+  pub worked : IsWorked driven (widening limits.int_limit) flow work.trail at
+  pub booked : IsBooked limits.budget work
   pub points : length work.masks.newest.items ≡ flow.points
   pub warnings : AreWarnings flow work.trail work.warnings
   pub told : AreTold flow work.trail work.warnings at
 
 -- nothing is
-pub record IsNothingKnown (flow : Flow) (budget : ℕ) (work : Work) : Type 0 where
+pub record IsNothingKnown (flow : Flow) (limits : Limits) (work : Work) : Type 0 where
   pub trail : work.trail ≡ []
-  pub booked : IsBooked budget work
+  pub booked : IsBooked limits.budget work
   pub points : length work.masks.newest.items ≡ flow.points
   pub kept : work.kept ≡ 0
   pub warnings : work.warnings ≡ []
   pub next : work.next ≡ None
 
 -- between two entries
-pub record Worked (flow : Flow) (budget : ℕ) (work : Work) (at : ℕ) : Type 0 where
-  pub known : IsKnown flow budget work at
+pub record Worked (flow : Flow) (limits : Limits) (work : Work) (at : ℕ) : Type 0 where
+  pub known : IsKnown flow limits work at
   pub next : work.next ≡ None
   pub within : at ≤ length work.trail
   pub causes : AreBefore work.trail at 0 0
 
 -- at an entry that is kept and stands at a point
-pub record IsOn (flow : Flow) (budget : ℕ) (work : Work) (at point : ℕ) : Type 0 where
-  pub known : IsKnown flow budget work at
+pub record IsOn (flow : Flow) (limits : Limits) (work : Work) (at point : ℕ) : Type 0 where
+  pub known : IsKnown flow limits work at
   pub next : work.next ≡ None
   pub entry : Entry
   pub there : At work.trail at entry
@@ -74,8 +75,8 @@ pub record IsOn (flow : Flow) (budget : ℕ) (work : Work) (at point : ℕ) : Ty
   pub point_is : entry.point ≡ point
 
 -- between two edges of an entry
-pub record OnEntry (flow : Flow) (budget : ℕ) (work : Work) (at point number : ℕ) : Type 0 where
-  pub on : IsOn flow budget work at point
+pub record OnEntry (flow : Flow) (limits : Limits) (work : Work) (at point number : ℕ) : Type 0 where
+  pub on : IsOn flow limits work at point
   pub edges : AreEdgesDone driven flow work.trail at on.entry number
   pub here : AreKindsTold flow work.warnings at on.entry number
   pub causes : AreBefore work.trail at number 0
@@ -98,15 +99,15 @@ IsStoppedAt trail at stops.NoMemory = Unit {0}
 IsStoppedAt trail at stops.Large = IsLargeAt trail at
 
 -- before the graphs of a post are put in
-pub record AtEdge (flow : Flow) (budget : ℕ) (work : Work) (at point number : ℕ) (edge : FlowEdge) (post : Post) : Type 0 where
-  pub on : OnEntry flow budget work at point number
+pub record AtEdge (flow : Flow) (limits : Limits) (work : Work) (at point number : ℕ) (edge : FlowEdge) (post : Post) : Type 0 where
+  pub on : OnEntry flow limits work at point number
   pub stands : slice_get flow.edges number ≡ Some edge
   pub leads : leads point edge ≡ true
   pub post_is : IsPostAt flow work.trail at edge post
 
 -- between two graphs of a post
-pub record OnEdge (flow : Flow) (budget : ℕ) (work : Work) (at point number : ℕ) (edge : FlowEdge) (post : Post) (count : ℕ) : Type 0 where
-  pub on : IsOn flow budget work at point
+pub record OnEdge (flow : Flow) (limits : Limits) (work : Work) (at point number : ℕ) (edge : FlowEdge) (post : Post) (count : ℕ) : Type 0 where
+  pub on : IsOn flow limits work at point
   pub stands : slice_get flow.edges number ≡ Some edge
   pub ordinary : is_ordinary edge.instr ≡ true
   pub leaves : edge.from ≡ point
@@ -118,44 +119,52 @@ pub record OnEdge (flow : Flow) (budget : ℕ) (work : Work) (at point number : 
   pub causes : AreBefore work.trail at number count
 
 -- an entry would be kept beyond the budget, or the graph of one is large
-pub record IsNext (flow : Flow) (budget : ℕ) (trail : List Entry) (next : Entry) : Type 0 where
-  pub honest : IsHonest driven flow trail next
+pub record IsNext (flow : Flow) (limits : Limits) (trail : List Entry) (next : Entry) : Type 0 where
+  pub honest : IsHonest driven (widening limits.int_limit) flow trail next
   pub kept : next.kept ≡ true
-  pub full : kept_count trail ≡ budget
+  pub full : kept_count trail ≡ limits.budget
 
-abbrev pub IsWhy : Flow → ℕ → List Entry → ℕ → Option Entry → Type 0
-IsWhy flow budget trail at None = IsLargeAt trail at
-IsWhy flow budget trail at (Some next) = IsNext flow budget trail next
+abbrev pub IsWhy : Flow → Limits → List Entry → ℕ → Option Entry → Type 0
+IsWhy flow limits trail at None = IsLargeAt trail at
+IsWhy flow limits trail at (Some next) = IsNext flow limits trail next
+
+-- what is known where not all is settled
+pub record IsToldOf (flow : Flow) (limits : Limits) (work : Work) (at : ℕ) : Type 0 where
+  pub honest : AreHonest driven (widening limits.int_limit) flow work.trail
+  pub booked : IsBooked limits.budget work
+  pub points : length work.masks.newest.items ≡ flow.points
+  pub warnings : AreWarnings flow work.trail work.warnings
+  pub told : AreTold flow work.trail work.warnings at
 
 -- it ends at an entry
-pub record IsHalted (flow : Flow) (budget : ℕ) (work : Work) (at : ℕ) : Type 0 where
-  pub known : IsKnown flow budget work at
-  pub why : IsWhy flow budget work.trail at work.next
+pub record IsHalted (flow : Flow) (limits : Limits) (work : Work) (at : ℕ) : Type 0 where
+  pub known : IsToldOf flow limits work at
+  pub why : IsWhy flow limits work.trail at work.next
 
 -- an entry of an honest trail, which is kept and stands at a point
-pub record IsEntryAt (flow : Flow) (trail : List Entry) (at point : ℕ) : Type 0 where
-  pub honest : AreHonest driven flow trail
+pub record IsEntryAt (flow : Flow) (limits : Limits) (trail : List Entry) (at point : ℕ) : Type 0 where
+  pub honest : AreHonest driven (widening limits.int_limit) flow trail
   pub entry : Entry
   pub there : At trail at entry
   pub kept : entry.kept ≡ true
   pub point_is : entry.point ≡ point
 
 -- it has ended, and each kind of a post of the first so many entries is told of
-pub record IsResting (flow : Flow) (budget : ℕ) (work : Work) (at which : ℕ) : Type 0 where
-  pub halted : IsHalted flow budget work at
+pub record IsResting (flow : Flow) (limits : Limits) (work : Work) (at which : ℕ) : Type 0 where
+  pub halted : IsHalted flow limits work at
   pub told : AreTold flow work.trail work.warnings which
 
 -- and so is each along the first so many edges of an entry
-pub record OnRest (flow : Flow) (budget : ℕ) (work : Work) (at which point number : ℕ) : Type 0 where
-  pub resting : IsResting flow budget work at which
-  pub is : IsEntryAt flow work.trail which point
+pub record OnRest (flow : Flow) (limits : Limits) (work : Work) (at which point number : ℕ) : Type 0 where
+  pub resting : IsResting flow limits work at which
+  pub is : IsEntryAt flow limits work.trail which point
   pub here : AreKindsTold flow work.warnings which is.entry number
 
 -- where a large graph is met meanwhile it ends there
-pub record IsEnded (flow : Flow) (trail : List Entry) (which : ℕ) : Type 0 where
-  pub honest : AreHonest driven flow trail
+pub record IsEnded (flow : Flow) (limits : Limits) (trail : List Entry) (which : ℕ) : Type 0 where
+  pub honest : AreHonest driven (widening limits.int_limit) flow trail
   pub large : IsLargeAt trail which
 
-abbrev pub RestsSo : Flow → ℕ → Work → ℕ → Option ℕ → Type 0
-RestsSo flow budget work at None = IsResting flow budget work at (length work.trail)
-RestsSo flow budget work at (Some which) = IsEnded flow work.trail which
+abbrev pub RestsSo : Flow → Limits → Work → ℕ → Option ℕ → Type 0
+RestsSo flow limits work at None = IsResting flow limits work at (length work.trail)
+RestsSo flow limits work at (Some which) = IsEnded flow limits work.trail which

@@ -9,12 +9,12 @@ ghost use Rattle.transfer.specs.Start.{IsStartGraph};
 ghost use Rattle.trail.specs.Seen.{HasNoCalls};
 ghost use Rattle.trail.specs.Theorems.{HaveOffsets};
 ghost use Rattle.trail.specs.Trail.{AreHonest};
-ghost use Rattle.driver.specs.Driven.{driven};
+ghost use Rattle.driver.specs.Driven.{driven, widening};
 ghost use Rattle.driver.specs.Looping.{IsNothingKnown, Worked, IsHalted, IsResting, IsEnded};
 ghost use Rattle.driver.specs.Ordering.{AreInOrder};
 ghost use Rattle.driver.specs.Verdicts.{IsVerdict};
 
-use crate::adding::add_kept;
+use crate::adding::add;
 use crate::calls::first_call;
 use crate::chains::chained;
 use crate::expanding::turn;
@@ -53,12 +53,12 @@ fn slot_count(budget: u32) -> usize
 }
 
 /// Nothing is known yet.
-fn nothing_known(alloc: Global, flow: &Flow, budget: u32) -> Result<Work, NoMemory>
-    requires budget { 1 ≤ budget }
-    ensures { IfOk result (λ work. IsNothingKnown flow.now budget work) }
+fn nothing_known(alloc: Global, flow: &Flow, limits: &Limits) -> Result<Work, NoMemory>
+    requires budget { 1 ≤ limits.now.budget }
+    ensures { IfOk result (λ work. IsNothingKnown flow.now limits.now work) }
 {
     let newest: Vec<usize> = vec![in alloc; 0; flow.points as usize]?;
-    let slots: Vec<usize> = vec![in alloc; 0; slot_count(budget)]?;
+    let slots: Vec<usize> = vec![in alloc; 0; slot_count(limits.budget)]?;
     Ok(Work {
         trail: List::new(alloc),
         masks: Masks {
@@ -76,21 +76,22 @@ fn nothing_known(alloc: Global, flow: &Flow, budget: u32) -> Result<Work, NoMemo
 }
 
 /// Main's start, of which nothing is followed yet.
-#[tactic(auto, using(crate::proofs::Closing::entry_within, crate::proofs::Closing::begun_within, crate::proofs::Closing::begun_uncovered, crate::proofs::Closing::begun_room))]
-fn begun(alloc: Global, flow: &Flow, budget: u32, graph: Graph) -> Result<Work, NoMemory>
+#[tactic(auto, using(crate::proofs::Closing::entry_within, crate::proofs::Closing::begun_within, crate::proofs::Closing::begun_placed))]
+fn begun(alloc: Global, flow: &Flow, limits: &Limits, graph: Graph) -> Result<Work, NoMemory>
     requires flow { IsFlow flow.now }
-    requires budget { 1 ≤ budget }
+    requires budget { 1 ≤ limits.now.budget }
     requires is { IsStartGraph flow.now graph }
     requires fits { FitsAt flow.now (entry_of flow.now flow.now.main) graph }
-    ensures { IfOk result (λ work. Worked flow.now budget work 0) }
+    ensures { IfOk result (λ work. Worked flow.now limits.now work 0) }
 {
     if !is_small(&graph) {
         return Err(NoMemory);
     }
     let point = entry_of(flow);
-    let mut work = nothing_known(alloc, flow, budget)?;
-    match add_kept(alloc, budget, &mut work, point, Cause::Start, graph) {
-        Ok(()) => Ok(work),
+    let mut work = nothing_known(alloc, flow, limits)?;
+    match add(alloc, flow, limits, &mut work, point, Cause::Start, graph) {
+        Ok(true) => Ok(work),
+        Ok(false) => unreachable!(),
         Err(error) => {
             drop(work);
             Err(error)
@@ -103,10 +104,11 @@ fn begun(alloc: Global, flow: &Flow, budget: u32, graph: Graph) -> Result<Work, 
 fn told(
     alloc: Global,
     flow: &Flow,
+    limits: &Limits,
     trail: &[Entry],
     warnings: &[Warning],
 ) -> Result<List<Warning>, NoMemory>
-    requires honest { AreHonest driven flow.now trail.now }
+    requires honest { AreHonest driven (widening limits.now.int_limit) flow.now trail.now }
     ensures { IfOk result (λ ordered. AreInOrder trail.now warnings.now ordered) }
 {
     let marks = chained(alloc, trail)?;
@@ -134,7 +136,7 @@ fn followed(
     requires exclusive { IsExclusive flow.now }
     requires calls { HasNoCalls flow.now }
     requires offsets { HaveOffsets flow.now }
-    requires so_far { Worked flow.now limits.now.budget work at }
+    requires so_far { Worked flow.now limits.now work at }
     requires all { length work.trail ≤ at }
     ensures { IfOk result (λ verdict. IsVerdict flow.now limits.now verdict) }
 {
@@ -157,7 +159,7 @@ fn followed(
         drop(warnings);
         return Ok(Verdict::Safe { trail });
     }
-    let ordered = told(alloc, flow, trail.as_slice(), warnings.as_slice())?;
+    let ordered = told(alloc, flow, limits, trail.as_slice(), warnings.as_slice())?;
     drop(warnings);
     Ok(Verdict::Warned {
         warnings: ordered,
@@ -180,7 +182,7 @@ fn halted(
     requires exclusive { IsExclusive flow.now }
     requires calls { HasNoCalls flow.now }
     requires offsets { HaveOffsets flow.now }
-    requires so_far { IsResting flow.now limits.now.budget work at (length work.trail) }
+    requires so_far { IsResting flow.now limits.now work at (length work.trail) }
     ensures { IfOk result (λ verdict. IsVerdict flow.now limits.now verdict) }
 {
     let Work {
@@ -210,7 +212,7 @@ fn halted(
                 drop(warnings);
                 return Ok(Verdict::Spent { trail, next });
             }
-            let ordered = told(alloc, flow, trail.as_slice(), warnings.as_slice())?;
+            let ordered = told(alloc, flow, limits, trail.as_slice(), warnings.as_slice())?;
             drop(warnings);
             Ok(Verdict::Warned {
                 warnings: ordered,
@@ -226,7 +228,7 @@ fn halted(
 #[tactic(auto, using(crate::proofs::Closing::large_ended))]
 fn ended(flow: &Flow, limits: &Limits, work: Work, which: u32) -> Verdict
     requires calls { HasNoCalls flow.now }
-    requires so_far { IsEnded flow.now work.trail which }
+    requires so_far { IsEnded flow.now limits.now work.trail which }
     ensures { IsVerdict flow.now limits.now result }
 {
     let Work { trail, .. } = work;
@@ -250,11 +252,11 @@ fn rest(
     requires calls { HasNoCalls flow.now }
     requires offsets { HaveOffsets flow.now }
     requires outs { AreOuts flow.now.edges outs.now }
-    requires so_far { IsHalted flow.now limits.now.budget work at }
+    requires so_far { IsHalted flow.now limits.now work at }
     ensures { IfOk result (λ verdict. IsVerdict flow.now limits.now verdict) }
 {
     let mut work = work;
-    match tell_rest(alloc, flow, limits.budget, outs, &mut work, at as usize)? {
+    match tell_rest(alloc, flow, limits, outs, &mut work, at as usize)? {
         None => halted(alloc, flow, limits, work, at),
         Some(which) => Ok(ended(flow, limits, work, which)),
     }
@@ -273,7 +275,7 @@ fn follow(
     requires calls { HasNoCalls flow.now }
     requires offsets { HaveOffsets flow.now }
     requires outs { AreOuts flow.now.edges outs.now }
-    requires so_far { Worked flow.now limits.now.budget work 0 }
+    requires so_far { Worked flow.now limits.now work 0 }
     ensures { IfOk result (λ verdict. IsVerdict flow.now limits.now verdict) }
 {
     let mut work = work;
@@ -281,7 +283,7 @@ fn follow(
         if at >= work.trail.len() {
             return followed(alloc, flow, limits, work, at);
         }
-        if !turn(alloc, flow, limits.budget, outs, &mut work, at)? {
+        if !turn(alloc, flow, limits, outs, &mut work, at)? {
             return rest(alloc, flow, limits, outs, work, at as u32);
         }
     }
@@ -306,7 +308,7 @@ fn analyse_uncalled(alloc: Global, flow: &Flow, limits: &Limits) -> Result<Verdi
             entry: None,
         }),
         Ok(graph) => {
-            let work = begun(alloc, flow, limits.budget, graph)?;
+            let work = begun(alloc, flow, limits, graph)?;
             follow(alloc, flow, limits, outs.as_slice(), work)
         }
     }

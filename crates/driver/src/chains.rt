@@ -26,13 +26,15 @@ fn mark_of(marks: &[bool], from: u32) -> bool
     }
 }
 
-/// Whether a chain without loss leads on to an entry with this cause.
+/// Whether a chain without loss leads on to an entry with this cause. None leads to what is made of a graph at a loop head.
 fn leads_on(marks: &[bool], cause: &Cause) -> bool
     ensures { result ≡ leads_on marks.now cause.now }
 {
     match cause {
         Cause::Start => true,
         Cause::Step { from, loss, .. } => is_none(*loss) && mark_of(marks, *from),
+        Cause::Fold { .. } => false,
+        Cause::Coarse { .. } => false,
     }
 }
 

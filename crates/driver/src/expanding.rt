@@ -11,6 +11,7 @@ use crate::adding::add;
 use crate::leaving::left_post;
 use crate::looking::is_small;
 use crate::noting::note_kinds;
+use crate::verdict::Limits;
 use crate::work::Work;
 use cbase::{NoMemory, Stop};
 use flow::{Flow, FlowEdge, Instr, Out};
@@ -72,7 +73,7 @@ pub(crate) fn is_kept(trail: &[Entry], at: usize) -> bool
 fn add_step(
     alloc: Global,
     flow: &Flow,
-    budget: u32,
+    limits: &Limits,
     work: &mut Work,
     at: usize,
     point: u32,
@@ -82,8 +83,8 @@ fn add_step(
     which: usize,
 ) -> Result<bool, NoMemory>
     requires flow { IsFlow flow.now }
-    requires so_far { OnEdge flow.now budget work.old at point number edge.now post.now which }
-    ensures { IfOk result (λ fits. Onward fits (OnEdge flow.now budget work.new at point number edge.now post.now (which + 1)) (IsHalted flow.now budget work.new at)) }
+    requires so_far { OnEdge flow.now limits.now work.old at point number edge.now post.now which }
+    ensures { IfOk result (λ fits. Onward fits (OnEdge flow.now limits.now work.new at point number edge.now post.now (which + 1)) (IsHalted flow.now limits.now work.new at)) }
 {
     if at >= 4_000_000_000 || number >= 4_000_000_000 || which >= 4_000_000_000 {
         return Err(NoMemory);
@@ -102,7 +103,7 @@ fn add_step(
                     result: which as u32,
                     loss: post.loss,
                 };
-                if !add(alloc, budget, work, edge.to, cause, copy)? {
+                if !add(alloc, flow, limits, work, edge.to, cause, copy)? {
                     return Ok(false);
                 }
                 Ok(true)
@@ -116,7 +117,7 @@ fn add_step(
 fn add_post(
     alloc: Global,
     flow: &Flow,
-    budget: u32,
+    limits: &Limits,
     work: &mut Work,
     at: usize,
     point: u32,
@@ -125,8 +126,8 @@ fn add_post(
     post: &Post,
 ) -> Result<bool, NoMemory>
     requires flow { IsFlow flow.now }
-    requires so_far { AtEdge flow.now budget work.old at point number edge.now post.now }
-    ensures { IfOk result (λ fits. Onward fits (OnEntry flow.now budget work.new at point (number + 1)) (IsHalted flow.now budget work.new at)) }
+    requires so_far { AtEdge flow.now limits.now work.old at point number edge.now post.now }
+    ensures { IfOk result (λ fits. Onward fits (OnEntry flow.now limits.now work.new at point (number + 1)) (IsHalted flow.now limits.now work.new at)) }
 {
     if at >= 4_000_000_000 || number >= 4_000_000_000 {
         return Err(NoMemory);
@@ -140,7 +141,7 @@ fn add_post(
     )?;
     for which in 0..post.graphs.len() {
         if !add_step(
-            alloc, flow, budget, work, at, point, number, edge, post, which,
+            alloc, flow, limits, work, at, point, number, edge, post, which,
         )? {
             return Ok(false);
         }
@@ -163,6 +164,7 @@ fn stop_of(alloc: Global, graph: &Graph) -> Stop
 pub(crate) fn post_at(
     alloc: Global,
     flow: &Flow,
+    limits: &Limits,
     trail: &[Entry],
     at: usize,
     point: u32,
@@ -170,7 +172,7 @@ pub(crate) fn post_at(
     edge: &FlowEdge,
 ) -> Result<Post, Stop>
     requires flow { IsFlow flow.now }
-    requires is { IsEntryAt flow.now trail.now at point }
+    requires is { IsEntryAt flow.now limits.now trail.now at point }
     requires stands { slice_get flow.now.edges number ≡ Some edge.now }
     requires leads { leads point edge.now ≡ true }
     ensures is { IfOk result (λ post. IsPostAt flow.now trail.now at edge.now post) }
@@ -197,7 +199,7 @@ pub(crate) fn post_at(
 fn expand_edge(
     alloc: Global,
     flow: &Flow,
-    budget: u32,
+    limits: &Limits,
     work: &mut Work,
     at: usize,
     point: u32,
@@ -205,15 +207,24 @@ fn expand_edge(
     edge: &FlowEdge,
 ) -> Result<bool, NoMemory>
     requires flow { IsFlow flow.now }
-    requires so_far { OnEntry flow.now budget work.old at point number }
+    requires so_far { OnEntry flow.now limits.now work.old at point number }
     requires stands { slice_get flow.now.edges number ≡ Some edge.now }
     requires leads { leads point edge.now ≡ true }
-    ensures { IfOk result (λ fits. Onward fits (OnEntry flow.now budget work.new at point (number + 1)) (IsHalted flow.now budget work.new at)) }
+    ensures { IfOk result (λ fits. Onward fits (OnEntry flow.now limits.now work.new at point (number + 1)) (IsHalted flow.now limits.now work.new at)) }
 {
-    match post_at(alloc, flow, work.trail.as_slice(), at, point, number, edge) {
+    match post_at(
+        alloc,
+        flow,
+        limits,
+        work.trail.as_slice(),
+        at,
+        point,
+        number,
+        edge,
+    ) {
         Err(Stop::NoMemory) => Err(NoMemory),
         Err(Stop::Large) => Ok(false),
-        Ok(post) => add_post(alloc, flow, budget, work, at, point, number, edge, &post),
+        Ok(post) => add_post(alloc, flow, limits, work, at, point, number, edge, &post),
     }
 }
 
@@ -222,15 +233,15 @@ fn expand_edge(
 fn expand_any(
     alloc: Global,
     flow: &Flow,
-    budget: u32,
+    limits: &Limits,
     work: &mut Work,
     at: usize,
     point: u32,
     number: usize,
 ) -> Result<bool, NoMemory>
     requires flow { IsFlow flow.now }
-    requires so_far { OnEntry flow.now budget work.old at point number }
-    ensures { IfOk result (λ fits. Onward fits (OnEntry flow.now budget work.new at point (number + 1)) (IsHalted flow.now budget work.new at)) }
+    requires so_far { OnEntry flow.now limits.now work.old at point number }
+    ensures { IfOk result (λ fits. Onward fits (OnEntry flow.now limits.now work.new at point (number + 1)) (IsHalted flow.now limits.now work.new at)) }
 {
     match flow.edges.as_slice().get(number) {
         None => Err(NoMemory),
@@ -238,7 +249,7 @@ fn expand_any(
             if !leads(point, edge) {
                 return Ok(true);
             }
-            expand_edge(alloc, flow, budget, work, at, point, number, edge)
+            expand_edge(alloc, flow, limits, work, at, point, number, edge)
         }
     }
 }
@@ -247,7 +258,7 @@ fn expand_any(
 fn expand(
     alloc: Global,
     flow: &Flow,
-    budget: u32,
+    limits: &Limits,
     outs: &[Out],
     work: &mut Work,
     at: usize,
@@ -256,22 +267,22 @@ fn expand(
     requires flow { IsFlow flow.now }
     requires exclusive { IsExclusive flow.now }
     requires outs { AreOuts flow.now.edges outs.now }
-    requires so_far { OnEntry flow.now budget work.old at point 0 }
-    ensures { IfOk result (λ fits. Onward fits (OnEntry flow.now budget work.new at point (length flow.now.edges)) (IsHalted flow.now budget work.new at)) }
+    requires so_far { OnEntry flow.now limits.now work.old at point 0 }
+    ensures { IfOk result (λ fits. Onward fits (OnEntry flow.now limits.now work.new at point (length flow.now.edges)) (IsHalted flow.now limits.now work.new at)) }
 {
     match out_of(outs, point) {
         Out::Nothing => Ok(true),
         Out::One(number) => {
-            if !expand_any(alloc, flow, budget, work, at, point, number)? {
+            if !expand_any(alloc, flow, limits, work, at, point, number)? {
                 return Ok(false);
             }
             Ok(true)
         }
         Out::Two(number, second) => {
-            if !expand_any(alloc, flow, budget, work, at, point, number)? {
+            if !expand_any(alloc, flow, limits, work, at, point, number)? {
                 return Ok(false);
             }
-            if !expand_any(alloc, flow, budget, work, at, point, second)? {
+            if !expand_any(alloc, flow, limits, work, at, point, second)? {
                 return Ok(false);
             }
             Ok(true)
@@ -285,7 +296,7 @@ fn expand(
 pub(crate) fn turn(
     alloc: Global,
     flow: &Flow,
-    budget: u32,
+    limits: &Limits,
     outs: &[Out],
     work: &mut Work,
     at: usize,
@@ -293,15 +304,15 @@ pub(crate) fn turn(
     requires flow { IsFlow flow.now }
     requires exclusive { IsExclusive flow.now }
     requires outs { AreOuts flow.now.edges outs.now }
-    requires so_far { Worked flow.now budget work.old at }
+    requires so_far { Worked flow.now limits.now work.old at }
     requires within { at < length work.old.trail }
-    ensures { IfOk result (λ fits. Onward fits (Worked flow.now budget work.new (at + 1)) (IsHalted flow.now budget work.new at)) }
+    ensures { IfOk result (λ fits. Onward fits (Worked flow.now limits.now work.new (at + 1)) (IsHalted flow.now limits.now work.new at)) }
 {
     if !is_kept(work.trail.as_slice(), at) {
         return Ok(true);
     }
     let point = point_of(work.trail.as_slice(), at);
-    if !expand(alloc, flow, budget, outs, work, at, point)? {
+    if !expand(alloc, flow, limits, outs, work, at, point)? {
         return Ok(false);
     }
     Ok(true)

@@ -8,7 +8,7 @@ use std::alloc::Global;
 use tidying::into_tidied;
 
 /// A graph without what nothing holds.
-fn left_graph(alloc: Global, graph: Graph) -> Result<Graph, NoMemory>
+pub(crate) fn left_graph(alloc: Global, graph: Graph) -> Result<Graph, NoMemory>
     ensures { IfOk result (λ left. IsWhatIsLeft graph left) }
 {
     let _ = graph.value_count();

@@ -17,6 +17,7 @@ mod noting;
 mod ordering;
 mod resting;
 mod verdict;
+mod widening;
 mod work;
 
 pub use analysis::analyse;

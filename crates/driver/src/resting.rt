@@ -7,6 +7,7 @@ ghost use Rattle.driver.specs.Looping.{Onward, leads, IsPostAt, IsHalted, IsRest
 
 use crate::expanding::{is_kept, leads, out_of, point_of, post_at};
 use crate::noting::note_kinds;
+use crate::verdict::Limits;
 use crate::work::Work;
 use cbase::{NoMemory, Stop};
 use flow::{Flow, FlowEdge, Out};
@@ -16,7 +17,7 @@ use std::alloc::Global;
 /// Tells of the faults of a post.
 fn tell_post(
     flow: &Flow,
-    budget: u32,
+    limits: &Limits,
     work: &mut Work,
     at: usize,
     which: usize,
@@ -25,11 +26,11 @@ fn tell_post(
     edge: &FlowEdge,
     post: &Post,
 ) -> Result<(), NoMemory>
-    requires so_far { OnRest flow.now budget work.old at which point number }
+    requires so_far { OnRest flow.now limits.now work.old at which point number }
     requires stands { slice_get flow.now.edges number ≡ Some edge.now }
     requires leads { leads point edge.now ≡ true }
     requires post { IsPostAt flow.now work.old.trail which edge.now post.now }
-    ensures { OnOk result (OnRest flow.now budget work.new at which point (number + 1)) }
+    ensures { OnOk result (OnRest flow.now limits.now work.new at which point (number + 1)) }
 {
     if which >= 4_000_000_000 || number >= 4_000_000_000 {
         return Err(NoMemory);
@@ -49,7 +50,7 @@ fn tell_post(
 fn tell_along(
     alloc: Global,
     flow: &Flow,
-    budget: u32,
+    limits: &Limits,
     work: &mut Work,
     at: usize,
     which: usize,
@@ -58,14 +59,15 @@ fn tell_along(
     edge: &FlowEdge,
 ) -> Result<bool, NoMemory>
     requires flow { IsFlow flow.now }
-    requires so_far { OnRest flow.now budget work.old at which point number }
+    requires so_far { OnRest flow.now limits.now work.old at which point number }
     requires stands { slice_get flow.now.edges number ≡ Some edge.now }
     requires leads { leads point edge.now ≡ true }
-    ensures { IfOk result (λ fits. Onward fits (OnRest flow.now budget work.new at which point (number + 1)) (IsEnded flow.now work.new.trail which)) }
+    ensures { IfOk result (λ fits. Onward fits (OnRest flow.now limits.now work.new at which point (number + 1)) (IsEnded flow.now limits.now work.new.trail which)) }
 {
     match post_at(
         alloc,
         flow,
+        limits,
         work.trail.as_slice(),
         which,
         point,
@@ -75,7 +77,7 @@ fn tell_along(
         Err(Stop::NoMemory) => Err(NoMemory),
         Err(Stop::Large) => Ok(false),
         Ok(post) => {
-            tell_post(flow, budget, work, at, which, point, number, edge, &post)?;
+            tell_post(flow, limits, work, at, which, point, number, edge, &post)?;
             Ok(true)
         }
     }
@@ -86,7 +88,7 @@ fn tell_along(
 fn tell_any(
     alloc: Global,
     flow: &Flow,
-    budget: u32,
+    limits: &Limits,
     work: &mut Work,
     at: usize,
     which: usize,
@@ -94,8 +96,8 @@ fn tell_any(
     number: usize,
 ) -> Result<bool, NoMemory>
     requires flow { IsFlow flow.now }
-    requires so_far { OnRest flow.now budget work.old at which point number }
-    ensures { IfOk result (λ fits. Onward fits (OnRest flow.now budget work.new at which point (number + 1)) (IsEnded flow.now work.new.trail which)) }
+    requires so_far { OnRest flow.now limits.now work.old at which point number }
+    ensures { IfOk result (λ fits. Onward fits (OnRest flow.now limits.now work.new at which point (number + 1)) (IsEnded flow.now limits.now work.new.trail which)) }
 {
     match flow.edges.as_slice().get(number) {
         None => Err(NoMemory),
@@ -103,7 +105,7 @@ fn tell_any(
             if !leads(point, edge) {
                 return Ok(true);
             }
-            tell_along(alloc, flow, budget, work, at, which, point, number, edge)
+            tell_along(alloc, flow, limits, work, at, which, point, number, edge)
         }
     }
 }
@@ -112,7 +114,7 @@ fn tell_any(
 fn tell_all(
     alloc: Global,
     flow: &Flow,
-    budget: u32,
+    limits: &Limits,
     outs: &[Out],
     work: &mut Work,
     at: usize,
@@ -122,22 +124,22 @@ fn tell_all(
     requires flow { IsFlow flow.now }
     requires exclusive { IsExclusive flow.now }
     requires outs { AreOuts flow.now.edges outs.now }
-    requires so_far { OnRest flow.now budget work.old at which point 0 }
-    ensures { IfOk result (λ fits. Onward fits (OnRest flow.now budget work.new at which point (length flow.now.edges)) (IsEnded flow.now work.new.trail which)) }
+    requires so_far { OnRest flow.now limits.now work.old at which point 0 }
+    ensures { IfOk result (λ fits. Onward fits (OnRest flow.now limits.now work.new at which point (length flow.now.edges)) (IsEnded flow.now limits.now work.new.trail which)) }
 {
     match out_of(outs, point) {
         Out::Nothing => Ok(true),
         Out::One(number) => {
-            if !tell_any(alloc, flow, budget, work, at, which, point, number)? {
+            if !tell_any(alloc, flow, limits, work, at, which, point, number)? {
                 return Ok(false);
             }
             Ok(true)
         }
         Out::Two(number, second) => {
-            if !tell_any(alloc, flow, budget, work, at, which, point, number)? {
+            if !tell_any(alloc, flow, limits, work, at, which, point, number)? {
                 return Ok(false);
             }
-            if !tell_any(alloc, flow, budget, work, at, which, point, second)? {
+            if !tell_any(alloc, flow, limits, work, at, which, point, second)? {
                 return Ok(false);
             }
             Ok(true)
@@ -151,7 +153,7 @@ fn tell_all(
 fn tell_entry(
     alloc: Global,
     flow: &Flow,
-    budget: u32,
+    limits: &Limits,
     outs: &[Out],
     work: &mut Work,
     at: usize,
@@ -160,15 +162,15 @@ fn tell_entry(
     requires flow { IsFlow flow.now }
     requires exclusive { IsExclusive flow.now }
     requires outs { AreOuts flow.now.edges outs.now }
-    requires so_far { IsResting flow.now budget work.old at which }
+    requires so_far { IsResting flow.now limits.now work.old at which }
     requires within { which < length work.old.trail }
-    ensures { IfOk result (λ fits. Onward fits (IsResting flow.now budget work.new at (which + 1)) (IsEnded flow.now work.new.trail which)) }
+    ensures { IfOk result (λ fits. Onward fits (IsResting flow.now limits.now work.new at (which + 1)) (IsEnded flow.now limits.now work.new.trail which)) }
 {
     if !is_kept(work.trail.as_slice(), which) {
         return Ok(true);
     }
     let point = point_of(work.trail.as_slice(), which);
-    if !tell_all(alloc, flow, budget, outs, work, at, which, point)? {
+    if !tell_all(alloc, flow, limits, outs, work, at, which, point)? {
         return Ok(false);
     }
     Ok(true)
@@ -179,7 +181,7 @@ fn tell_entry(
 pub(crate) fn tell_rest(
     alloc: Global,
     flow: &Flow,
-    budget: u32,
+    limits: &Limits,
     outs: &[Out],
     work: &mut Work,
     at: usize,
@@ -187,14 +189,14 @@ pub(crate) fn tell_rest(
     requires flow { IsFlow flow.now }
     requires exclusive { IsExclusive flow.now }
     requires outs { AreOuts flow.now.edges outs.now }
-    requires so_far { IsHalted flow.now budget work.old at }
-    ensures { IfOk result (λ large. RestsSo flow.now budget work.new at large) }
+    requires so_far { IsHalted flow.now limits.now work.old at }
+    ensures { IfOk result (λ large. RestsSo flow.now limits.now work.new at large) }
 {
     for which in at..4_000_000_000usize {
         if which >= work.trail.len() {
             return Ok(None);
         }
-        if !tell_entry(alloc, flow, budget, outs, work, at, which)? {
+        if !tell_entry(alloc, flow, limits, outs, work, at, which)? {
             return Ok(Some(which as u32));
         }
     }

@@ -6,7 +6,7 @@ use trail::Entry;
 pub struct Limits {
     /// How many graphs are kept at most, at least 1.
     pub budget: u32,
-    /// How many constants are told apart; of no effect yet.
+    /// Constants beyond plus or minus this number are forgotten at loop heads.
     pub int_limit: u32,
 }
 

@@ -1,6 +1,7 @@
 use crate::mask::Masks;
 use crate::verdict::Warning;
 use cbase::List;
+use fold::Fold;
 use trail::Entry;
 
 /// What is known so far.
@@ -22,4 +23,30 @@ pub(crate) struct Work {
     pub(crate) warnings: List<Warning>,
     /// The entry that would be kept beyond the budget.
     pub(crate) next: Option<Entry>,
+}
+
+/// What becomes of a graph that is looked up.
+#[derive(Clone, Copy)]
+pub(crate) enum Put {
+    /// Its entry is in the trail, and it is kept or covered.
+    Done,
+    /// It would be kept beyond the budget.
+    Full,
+    /// Its entry is in the trail and not kept, since it stands at a loop head and another one is to be made of it.
+    Open {
+        /// In this way.
+        change: Change,
+    },
+}
+
+/// What is made of a graph at a loop head.
+#[derive(Clone, Copy)]
+pub(crate) enum Change {
+    /// Constants beyond the limit are forgotten.
+    Coarse,
+    /// Two neighbours of a list become a segment.
+    Fold {
+        /// These.
+        fold: Fold,
+    },
 }

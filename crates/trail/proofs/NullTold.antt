@@ -1,5 +1,5 @@
 -- Each fault of the program that reads at a null pointer is told.
-use Rattle.std.proofs.Common.{◌≡◌, ℕ, zero, suc, List, [], ◌∷◌, map, true, refl, sym, ap, subst, ◌∙◌, ◌⊎◌, inl, inr, None, Some, arith}
+use Rattle.std.proofs.Common.{◌≡◌, ℕ, zero, suc, List, [], ◌∷◌, map, true, refl, sym, ap, subst, ◌∙◌, inl, inr, None, Some, arith}
 use Rattle.std.specs.Prelude.{slice_get, Contains}
 use Rattle.cbase.specs.declared.place.Place.{Place}
 use Rattle.bytes_core.specs.declared.word.Word.TheVariants.{Plain}
@@ -17,8 +17,8 @@ use Rattle.flow.specs.Standing.{stands_at}
 use Rattle.trail.specs.declared.trail.Cause.TheVariants.{Step}
 use Rattle.trail.specs.Seen.{seen, IsOf, is_ordinary}
 use Rattle.trail.specs.Analysis.{IsSound, StandsAmong}
-use Rattle.trail.specs.Trail.{IsDone, IsExpanded, IsClosed, AreTame, StandsAsStep, IsCovered}
-use Rattle.trail.specs.Witness.{here, null_edge, read_edge, back_edge, null, holds, post_of, fault_post, for_null, first_entry, second_entry, trail_of, IsNullTold}
+use Rattle.trail.specs.Trail.{IsDone, IsExpanded, IsClosed, AreTame, StandsAsStep, IsSettled, SettledKept}
+use Rattle.trail.specs.Witness.{here, null_edge, read_edge, back_edge, null, holds, post_of, fault_post, for_null, nothing_widened, first_entry, second_entry, trail_of, IsNullTold}
 use Rattle.trail.proofs.Steps.{GoesFrom, goes_from}
 use Rattle.trail.proofs.Sound.{same_some, all_told}
 use Rattle.trail.proofs.Witness.{by_two, no_registers, blank_stands, after_first}
@@ -94,12 +94,14 @@ listed number graph post state kind (inr (number_is, graph_is, post_is)) of stan
     let kind_is : null_pointer_dereference ≡ kind = cc in
     subst (λ (p : Post). Contains p.kinds kind) (sym post_is) (0, omega arith, kind_is)
 
-sound : IsSound for_null null
+sound : IsSound for_null nothing_widened null
 sound = record {
   start = λ graph state choices rest is goes. begun graph state choices rest is goes;
   steps = λ number edge graph post state next there ordinary fits is tame of stands steps. goes_on number graph post state next is of stands steps;
   faults = λ number edge graph post state kind there ordinary fits is of stands faults. listed number graph post state kind is of stands faults;
   covers = λ point wide narrow state fits is stands. subst (λ (g : Parts). StandsFor g (seen state)) (sym is) stands;
+  folds = λ point graph after state fits is stands. absurd is;
+  coarsens = λ point graph after state fits is stands. absurd is;
 }
 
 by_three : {A : Type 0} (P : ℕ → A → Type 0) (one two three : A) → P 0 one → P 1 two → P 2 three → (number : ℕ) (item : A) → slice_get (one ∷ two ∷ three ∷ []) number ≡ Some item → P number item
@@ -127,7 +129,7 @@ expanded_second = by_three (λ number edge. is_ordinary edge.instr ≡ true → 
 closed : IsClosed for_null null (trail_of (holds 0 8))
 closed = record {
   begins = (0, first_entry, refl, refl);
-  settled = by_two (λ number entry. (entry.kept ≡ true) ⊎ IsCovered for_null (trail_of (holds 0 8)) entry) first_entry (second_entry (holds 0 8)) (inl refl) (inl refl);
+  settled = by_two (λ number entry. IsSettled for_null (trail_of (holds 0 8)) number) first_entry (second_entry (holds 0 8)) (SettledKept 0 first_entry refl refl) (SettledKept 1 (second_entry (holds 0 8)) refl refl);
   expanded = by_two (λ number entry. entry.kept ≡ true → IsExpanded for_null null (trail_of (holds 0 8)) number entry) first_entry (second_entry (holds 0 8))
       (λ kept. expanded_first)
       (λ kept. expanded_second);
@@ -151,5 +153,5 @@ null_told = record {
   honest = honest;
   closed = closed;
   tame = tame;
-  told = all_told for_null null (trail_of (holds 0 8)) is_flow offsets calls sound honest closed tame;
+  told = all_told for_null nothing_widened null (trail_of (holds 0 8)) is_flow offsets calls sound honest closed tame;
 }

@@ -29,7 +29,7 @@ use Rattle.trail.specs.Seen.{seen, IsOf}
 use Rattle.trail.specs.Analysis.{IsNear, IsBegun, GoesNear, IsLedTo, IsFaulting, IsExact}
 use Rattle.trail.specs.Theorems.{HaveOffsets}
 use Rattle.trail.specs.Trail.{IsHonest, AreHonest, IsReal, RealStart, RealStep, HasKind}
-use Rattle.trail.specs.Witness.{here, null_edge, read_edge, back_edge, null, holds, post_of, fault_post, for_null, same_registers, first_entry, second_entry, trail_of, IsNullMet}
+use Rattle.trail.specs.Witness.{here, null_edge, read_edge, back_edge, null, holds, post_of, fault_post, for_null, nothing_widened, same_registers, first_entry, second_entry, trail_of, IsNullMet}
 use Rattle.trail.proofs.Sound.{same_some}
 use Rattle.trail.proofs.Real.{error_met}
 use Rattle.trail.proofs.Witness.{by_two, no_registers, blank_stands, after_first}
@@ -178,7 +178,7 @@ reads = record {
 exact : IsExact for_null same_registers null
 exact = record {
   start = λ graph next is fine stands. begins next (subst (λ (g : Parts). StandsFor g next) is stands);
-  steps = λ number edge graph post result after next there fits is loss result_is fine stands. elim is [
+  steps = λ number edge graph post result after next there fits sharp is loss result_is fine stands. elim is [
     | inl (number_is, graph_is, post_is) ↦
         let one : null_edge ≡ edge = null_edge_is number edge number_is there in
         let after_is : holds 0 8 ≡ after = only_result result after (sym (ap (λ (p : Post). slice_get p.graphs result) post_is) ∙ result_is) in
@@ -188,7 +188,9 @@ exact = record {
         (loads next (subst (λ (g : Parts). StandsFor g next) (sym after_is) stands))))
     | inr (number_is, graph_is, post_is) ↦ let none : slice_get {X = Parts} [] result ≡ Some after = sym (ap (λ (p : Post). slice_get p.graphs result) post_is) ∙ result_is in absurd (no_result result after none)
   ];
-  faults = λ number edge graph post kind there fits is has. elim is [
+  begins = λ graph is. tt;
+  leads = λ number edge graph post result after there fits sharp is none result_is. tt;
+  faults = λ number edge graph post kind there fits sharp is has. elim is [
     | inl (number_is, graph_is, post_is) ↦ absurd (no_kind kind (subst (λ (p : Post). Contains p.kinds kind) post_is has))
     | inr (number_is, graph_is, post_is) ↦
         let one : read_edge ≡ edge = read_edge_is number edge number_is there in
@@ -214,12 +216,13 @@ exact = record {
     only_kind kind (zero, below, is) = is
     only_kind kind (suc k, below, is) = absurd (omega arith)
 
-pub honest : AreHonest for_null null (trail_of (holds 0 8))
-honest = by_two (λ number entry. IsHonest for_null null (take number (trail_of (holds 0 8))) entry) first_entry (second_entry (holds 0 8))
+pub honest : AreHonest for_null nothing_widened null (trail_of (holds 0 8))
+honest = by_two (λ number entry. IsHonest for_null nothing_widened null (take number (trail_of (holds 0 8))) entry) first_entry (second_entry (holds 0 8))
     (record {
       fits = tt;
       made = (refl, refl);
       uncovered = λ kept number earlier there kept' point covers. absurd cc;
+      reduced = λ kept head. tt;
       new = λ number earlier there same. absurd cc;
     })
     (record {
@@ -239,6 +242,7 @@ honest = by_two (λ number entry. IsHonest for_null null (take number (trail_of 
         loss_is = refl;
       };
       uncovered = λ kept number earlier there kept' point covers. by_one number earlier there point;
+      reduced = λ kept head. tt;
       new = λ number earlier there same. by_cause number earlier there same;
     })
   where
@@ -269,5 +273,5 @@ null_met = record {
   honest = honest;
   real = chain;
   has = has;
-  met = error_met for_null same_registers null (trail_of (holds 0 8)) is_flow offsets calls exclusive exact honest 1 (second_entry (holds 0 8)) 1 null_pointer_dereference read_edge chain refl refl has;
+  met = error_met for_null nothing_widened same_registers null (trail_of (holds 0 8)) is_flow offsets calls exclusive exact honest 1 (second_entry (holds 0 8)) 1 null_pointer_dereference read_edge chain refl refl has;
 }

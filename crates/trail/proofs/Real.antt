@@ -18,7 +18,7 @@ use Rattle.flow.proofs.RunStateLaws.{are_run_states}
 use Rattle.trail.specs.declared.trail.Cause.TheVariants.{Start}
 use Rattle.trail.specs.declared.trail.Entry.{Entry}
 use Rattle.trail.specs.Seen.{IsOf, is_call, HasNoCalls}
-use Rattle.trail.specs.Analysis.{Analysis, Nearness, IsExact, IsNear, IsBegun, GoesNear, IsLedTo, IsFaulting, Fits}
+use Rattle.trail.specs.Analysis.{Analysis, Widening, Nearness, IsSharp, IsExact, IsNear, IsBegun, GoesNear, IsLedTo, IsFaulting, Fits}
 use Rattle.trail.specs.Trail.{At, Made, IsResult, AreHonest, IsReal, RealStart, RealStep}
 use Rattle.trail.specs.Theorems.{HaveOffsets, MeetsErrors}
 use Rattle.trail.proofs.Steps.{IsAt, Nowhere, told_state, begins, executes, GoesFrom, goes_from, whole, whole_none, whole_last}
@@ -145,35 +145,54 @@ goes_near nearness flow number edge before next valid offsets calls exclusive st
     (record { point_is = at.point_is ∙ ap (λ (e : FlowEdge). e.to) one; callers_are = at.callers_are ∙ come.of.callers; outer_is = at.outer_is ∙ come.of.outer })
     goes.near
 
--- near each state of an entry behind such a chain comes a run
-real : (analysis : Analysis) (nearness : Nearness) (flow : Flow) (trail : List Entry) → IsFlow flow → HaveOffsets flow → HasNoCalls flow → IsExclusive flow → IsExact analysis nearness flow →
-    AreHonest analysis flow trail → (number : ℕ) → IsReal trail number → (entry : Entry) → At trail number entry → (wanted : graphs.State) → graphs.IsState wanted → StandsFor entry.graph wanted →
-    ComesNear nearness flow entry.point wanted
-real analysis nearness flow trail valid offsets calls exclusive exact honest number (RealStart _ first at is) entry there wanted fine stands =
+-- the graph of an entry behind such a chain is sharp
+pub sharp_there : (analysis : Analysis) (widening : Widening) (nearness : Nearness) (flow : Flow) (trail : List Entry) → IsExact analysis nearness flow → AreHonest analysis widening flow trail →
+    (number : ℕ) → IsReal trail number → (entry : Entry) → At trail number entry → IsSharp nearness entry.graph
+sharp_there analysis widening nearness flow trail exact honest number (RealStart _ first at is) entry there =
     let one : first ≡ entry = same_some first entry (sym at ∙ there) in
-    let made : Made analysis flow (take number trail) entry Start =
-    subst (Made analysis flow (take number trail) entry) (ap (λ (x : Entry). x.cause) (sym one) ∙ is) (honest number entry there).made in
-    subst (λ (p : ℕ). ComesNear nearness flow p wanted) (sym made.0) (begins_near nearness flow wanted valid offsets (exact.start entry.graph wanted made.1 fine stands))
-real analysis nearness flow trail valid offsets calls exclusive exact honest number (RealStep _ from edge result last at is chain) entry there wanted fine stands =
+    let made : Made analysis widening flow (take number trail) entry Start =
+    subst (Made analysis widening flow (take number trail) entry) (ap (λ (x : Entry). x.cause) (sym one) ∙ is) (honest number entry there).made in
+    exact.begins entry.graph made.1
+sharp_there analysis widening nearness flow trail exact honest number (RealStep _ from edge result last at is chain) entry there =
     let one : last ≡ entry = same_some last entry (sym at ∙ there) in
     let made : IsResult analysis flow (take number trail) entry from edge result None =
-    subst (Made analysis flow (take number trail) entry) (ap (λ (x : Entry). x.cause) (sym one) ∙ is) (honest number entry there).made in
+    subst (Made analysis widening flow (take number trail) entry) (ap (λ (x : Entry). x.cause) (sym one) ∙ is) (honest number entry there).made in
+    let earlier : At trail from made.earlier = at_front trail number from made.earlier made.there in
+    let fits : Fits analysis flow made.edge.from made.earlier.graph = subst (λ (p : ℕ). Fits analysis flow p made.earlier.graph) (sym made.leaves) (honest from made.earlier earlier).fits in
+    exact.leads edge made.edge made.earlier.graph made.post result entry.graph made.stands fits
+    (sharp_there analysis widening nearness flow trail exact honest from chain made.earlier earlier) made.is made.loss_is made.graph
+
+-- near each state of an entry behind such a chain comes a run
+real : (analysis : Analysis) (widening : Widening) (nearness : Nearness) (flow : Flow) (trail : List Entry) → IsFlow flow → HaveOffsets flow → HasNoCalls flow → IsExclusive flow → IsExact analysis nearness flow →
+    AreHonest analysis widening flow trail → (number : ℕ) → IsReal trail number → (entry : Entry) → At trail number entry → (wanted : graphs.State) → graphs.IsState wanted → StandsFor entry.graph wanted →
+    ComesNear nearness flow entry.point wanted
+real analysis widening nearness flow trail valid offsets calls exclusive exact honest number (RealStart _ first at is) entry there wanted fine stands =
+    let one : first ≡ entry = same_some first entry (sym at ∙ there) in
+    let made : Made analysis widening flow (take number trail) entry Start =
+    subst (Made analysis widening flow (take number trail) entry) (ap (λ (x : Entry). x.cause) (sym one) ∙ is) (honest number entry there).made in
+    subst (λ (p : ℕ). ComesNear nearness flow p wanted) (sym made.0) (begins_near nearness flow wanted valid offsets (exact.start entry.graph wanted made.1 fine stands))
+real analysis widening nearness flow trail valid offsets calls exclusive exact honest number (RealStep _ from edge result last at is chain) entry there wanted fine stands =
+    let one : last ≡ entry = same_some last entry (sym at ∙ there) in
+    let made : IsResult analysis flow (take number trail) entry from edge result None =
+    subst (Made analysis widening flow (take number trail) entry) (ap (λ (x : Entry). x.cause) (sym one) ∙ is) (honest number entry there).made in
     let earlier : At trail from made.earlier = at_front trail number from made.earlier made.there in
     let fits : Fits analysis flow made.edge.from made.earlier.graph = subst (λ (p : ℕ). Fits analysis flow p made.earlier.graph) (sym made.leaves) (honest from made.earlier earlier).fits in
     let led : IsLedTo nearness flow edge made.edge made.earlier.graph wanted =
-    exact.steps edge made.edge made.earlier.graph made.post result entry.graph wanted made.stands fits made.is made.loss_is made.graph fine stands in
+    exact.steps edge made.edge made.earlier.graph made.post result entry.graph wanted made.stands fits
+    (sharp_there analysis widening nearness flow trail exact honest from chain made.earlier earlier) made.is made.loss_is made.graph fine stands in
     let come : ComesNear nearness flow made.earlier.point led.before =
-    real analysis nearness flow trail valid offsets calls exclusive exact honest from chain made.earlier earlier led.before led.is led.stands in
+    real analysis widening nearness flow trail valid offsets calls exclusive exact honest from chain made.earlier earlier led.before led.is led.stands in
     let come' : ComesNear nearness flow made.edge.from led.before = subst (λ (p : ℕ). ComesNear nearness flow p led.before) (sym made.leaves) come in
     subst (λ (p : ℕ). ComesNear nearness flow p wanted) (sym made.arrives)
     (goes_near nearness flow edge made.edge led.before wanted valid offsets calls exclusive made.stands come' (led.goes come'.state come'.of come'.point_is come'.near))
 
-pub error_met : (analysis : Analysis) (nearness : Nearness) → MeetsErrors analysis nearness
-error_met analysis nearness flow trail valid offsets calls exclusive exact honest at entry number kind edge chain there stands has =
+pub error_met : (analysis : Analysis) (widening : Widening) (nearness : Nearness) → MeetsErrors analysis widening nearness
+error_met analysis widening nearness flow trail valid offsets calls exclusive exact honest at entry number kind edge chain there stands has =
     let fits : Fits analysis flow has.edge.from entry.graph = subst (λ (p : ℕ). Fits analysis flow p entry.graph) (sym has.leaves) (honest at entry there).fits in
-    let faulting : IsFaulting nearness flow number has.edge entry.graph kind = exact.faults number has.edge entry.graph has.post kind has.stands fits has.is has.has in
+    let faulting : IsFaulting nearness flow number has.edge entry.graph kind = exact.faults number has.edge entry.graph has.post kind has.stands fits
+    (sharp_there analysis widening nearness flow trail exact honest at chain entry there) has.is has.has in
     let come : ComesNear nearness flow entry.point faulting.before =
-    real analysis nearness flow trail valid offsets calls exclusive exact honest at chain entry there faulting.before faulting.is faulting.stands in
+    real analysis widening nearness flow trail valid offsets calls exclusive exact honest at chain entry there faulting.before faulting.is faulting.stands in
     let faults : FaultsAlong flow number come.state kind = faulting.faults come.state come.of (come.point_is ∙ sym has.leaves) come.near in
     let one : faults.edge ≡ edge = same_some faults.edge edge (sym faults.stands ∙ stands) in
     subst (λ (e : FlowEdge). RunFaults flow kind e.place) one (faults_there flow exclusive number kind come.state come.reached faults)

@@ -1,5 +1,5 @@
 -- The program of two edges is safe.
-use Rattle.std.proofs.Common.{◌≡◌, ℕ, zero, suc, ◌<◌, List, [], ◌∷◌, map, Bool, true, false, refl, sym, ap, subst, ◌∙◌, ◌⊎◌, inl, None, Some, take, arith}
+use Rattle.std.proofs.Common.{◌≡◌, ℕ, zero, suc, ◌<◌, List, [], ◌∷◌, map, Bool, true, false, refl, sym, ap, subst, ◌∙◌, None, Some, take, arith}
 use Rattle.std.specs.Prelude.{◌≢◌, ◌&&◌, nat_eq, if◌then◌else◌, slice_get, Contains, All, IsTrue}
 use Rattle.std.specs.Option.{option_map}
 use Rattle.std.proofs.lemmas.List.Elements.{All-nil, All-cons}
@@ -28,8 +28,8 @@ use Rattle.trail.specs.declared.trail.Cause.TheVariants.{Start, Step}
 use Rattle.trail.specs.declared.trail.Entry.{Entry}
 use Rattle.trail.specs.Seen.{seen, IsOf, HasNoCalls, is_ordinary, is_call}
 use Rattle.trail.specs.Analysis.{IsSound, StandsAmong}
-use Rattle.trail.specs.Trail.{IsHonest, AreHonest, IsDone, IsExpanded, IsClosed, IsClean, StandsAsStep, IsCovered}
-use Rattle.trail.specs.Witness.{stands, first_edge, last_edge, main, seven, holds, post_of, for_seven, first_entry, second_entry, trail_of, IsSevenSafe}
+use Rattle.trail.specs.Trail.{IsHonest, AreHonest, IsDone, IsExpanded, IsClosed, IsClean, StandsAsStep, IsSettled, SettledKept}
+use Rattle.trail.specs.Witness.{stands, first_edge, last_edge, main, seven, holds, post_of, for_seven, nothing_widened, first_entry, second_entry, trail_of, IsSevenSafe}
 use Rattle.trail.proofs.Steps.{GoesFrom, goes_from}
 use Rattle.trail.proofs.Sound.{same_some, safe_shown}
 
@@ -196,7 +196,7 @@ stepped edge graph post state next edge_is graph_is post_is is stands choices re
 first_is : (number : ℕ) (edge : FlowEdge) → number ≡ 0 → slice_get seven.edges number ≡ Some edge → edge ≡ first_edge
 first_is number edge is there = sym (same_some first_edge edge (sym (ap (slice_get seven.edges) is) ∙ there))
 
-sound : IsSound for_seven seven
+sound : IsSound for_seven nothing_widened seven
 sound = record {
   start = λ graph state choices rest is goes. begun graph state choices rest is goes;
   steps = λ number edge graph post state next there ordinary fits is none of stands steps.
@@ -204,6 +204,8 @@ sound = record {
   faults = λ number edge graph post state kind there ordinary fits is of stands faults.
       no_fault faults.edge state kind (first_is number faults.edge is.0 faults.stands) faults.choices faults.faults;
   covers = λ point wide narrow state fits is stands. subst (λ (g : Parts). StandsFor g (seen state)) (sym is) stands;
+  folds = λ point graph after state fits is stands. absurd is;
+  coarsens = λ point graph after state fits is stands. absurd is;
 }
   where
     no_fault : {A : Type 0} (edge : FlowEdge) (state : State) (kind : ℕ) → edge ≡ first_edge → (choices : List Choice) → step_along seven edge state choices ≡ Faulted kind edge.place → A
@@ -213,12 +215,13 @@ sound = record {
         let none : Went (at 1 (with_value 0 4 (Plain 7) state)) choices ≡ Faulted kind edge.place = from.comes in
         absurd cc
 
-honest : AreHonest for_seven seven (trail_of (holds 7 4))
-honest = by_two (λ number entry. IsHonest for_seven seven (take number (trail_of (holds 7 4))) entry) first_entry (second_entry (holds 7 4))
+honest : AreHonest for_seven nothing_widened seven (trail_of (holds 7 4))
+honest = by_two (λ number entry. IsHonest for_seven nothing_widened seven (take number (trail_of (holds 7 4))) entry) first_entry (second_entry (holds 7 4))
     (record {
       fits = tt;
       made = (refl, refl);
       uncovered = λ kept number earlier there kept' point covers. absurd cc;
+      reduced = λ kept head. tt;
       new = λ number earlier there same. absurd cc;
     })
     (record {
@@ -238,6 +241,7 @@ honest = by_two (λ number entry. IsHonest for_seven seven (take number (trail_o
         loss_is = refl;
       };
       uncovered = λ kept number earlier there kept' point covers. by_one number earlier there point;
+      reduced = λ kept head. tt;
       new = λ number earlier there same. by_cause number earlier there same;
     })
   where
@@ -261,7 +265,7 @@ expanded_first = by_two (λ number edge. is_ordinary edge.instr ≡ true → edg
 closed : IsClosed for_seven seven (trail_of (holds 7 4))
 closed = record {
   begins = (0, first_entry, refl, refl);
-  settled = by_two (λ number entry. (entry.kept ≡ true) ⊎ IsCovered for_seven (trail_of (holds 7 4)) entry) first_entry (second_entry (holds 7 4)) (inl refl) (inl refl);
+  settled = by_two (λ number entry. IsSettled for_seven (trail_of (holds 7 4)) number) first_entry (second_entry (holds 7 4)) (SettledKept 0 first_entry refl refl) (SettledKept 1 (second_entry (holds 7 4)) refl refl);
   expanded = by_two (λ number entry. entry.kept ≡ true → IsExpanded for_seven seven (trail_of (holds 7 4)) number entry) first_entry (second_entry (holds 7 4))
       (λ kept. expanded_first)
       (λ kept. by_two (λ number edge. is_ordinary edge.instr ≡ true → edge.from ≡ 1 → IsDone for_seven seven (trail_of (holds 7 4)) 1 (second_entry (holds 7 4)) number edge) first_edge last_edge
@@ -283,5 +287,5 @@ seven_safe = record {
   honest = honest;
   closed = closed;
   clean = clean;
-  safe = safe_shown for_seven seven (trail_of (holds 7 4)) is_flow (All-nil (λ scalar. HasInitialOffset scalar.word)) calls sound honest closed clean;
+  safe = safe_shown for_seven nothing_widened seven (trail_of (holds 7 4)) is_flow (All-nil (λ scalar. HasInitialOffset scalar.word)) calls sound honest closed clean;
 }

@@ -30,13 +30,33 @@ IsPost analysis flow number graph post = analysis.is_post flow number graph post
 abbrev pub Covers : Analysis → Parts → Parts → Type 0
 Covers analysis wide narrow = analysis.covers wide narrow
 
+-- what is made of graphs at loop heads: which graph is a fold of another one, which is what is left of another one where constants beyond a limit are forgotten, and of which there is
+-- neither
+pub record Widening : Type 1 where
+  pub is_fold : Parts → Parts → Type 0
+  pub is_coarse : Parts → Parts → Type 0
+  pub is_reduced : Parts → Type 0
+
+abbrev pub IsFold : Widening → Parts → Parts → Type 0
+IsFold widening graph after = widening.is_fold graph after
+
+abbrev pub IsCoarse : Widening → Parts → Parts → Type 0
+IsCoarse widening graph after = widening.is_coarse graph after
+
+abbrev pub IsReduced : Widening → Parts → Type 0
+IsReduced widening graph = widening.is_reduced graph
+
 -- the same as tests
 pub record Tests : Type 0 where
   pub fits : Flow → ℕ → Parts → Bool
   pub start : Flow → Parts → Bool
   pub post : Flow → ℕ → Parts → Post → Bool
   pub covers : Parts → Parts → Bool
+  pub fold : Parts → Parts → Bool
+  pub coarse : Parts → Parts → Bool
+  pub reduced : Parts → Bool
   pub near : graphs.State → State → Bool
+  pub sharp : Parts → Bool
 
 abbrev pub tested : Tests → Analysis
 tested tests = record {
@@ -44,6 +64,13 @@ tested tests = record {
   is_start = λ flow graph. tests.start flow graph ≡ true;
   is_post = λ flow number graph post. tests.post flow number graph post ≡ true;
   covers = λ wide narrow. tests.covers wide narrow ≡ true;
+}
+
+abbrev pub widened : Tests → Widening
+widened tests = record {
+  is_fold = λ graph after. tests.fold graph after ≡ true;
+  is_coarse = λ graph after. tests.coarse graph after ≡ true;
+  is_reduced = λ graph. tests.reduced graph ≡ true;
 }
 
 -- one of these graphs stands for the state
@@ -57,8 +84,9 @@ pub record StandsAmong (graphs : List Parts) (state : State) : Type 0 where
 abbrev pub IsTame : Post → Type 0
 IsTame post = post.loss ≡ Some 4 → post.kinds ≡ []
 
--- nothing is left out of graphs that fit where they stand: a post along an edge has each kind that is met, and a tame one stands for all that follows
-pub record IsSound (analysis : Analysis) (flow : Flow) : Type 0 where
+-- nothing is left out of graphs that fit where they stand: a post along an edge has each kind that is met, and a tame one stands for all that follows; what covers a graph, is a fold of it or what
+-- is left of it stands for all for which it stands
+pub record IsSound (analysis : Analysis) (widening : Widening) (flow : Flow) : Type 0 where
   pub start : (graph : Parts) (state : State) (choices rest : List Choice) →
       IsStart analysis flow graph → start flow choices ≡ Went state rest → StandsFor graph (seen state)
   pub steps : (number : ℕ) (edge : FlowEdge) (graph : Parts) (post : Post) (state next : State) →
@@ -68,16 +96,22 @@ pub record IsSound (analysis : Analysis) (flow : Flow) : Type 0 where
       slice_get flow.edges number ≡ Some edge → is_ordinary edge.instr ≡ true → Fits analysis flow edge.from graph → IsPost analysis flow number graph post →
       IsOf flow state → StandsFor graph (seen state) → FaultsAlong flow number state kind → Contains post.kinds kind
   pub covers : (point : ℕ) (wide narrow : Parts) (state : State) → Fits analysis flow point wide → Covers analysis wide narrow → StandsFor narrow (seen state) → StandsFor wide (seen state)
+  pub folds : (point : ℕ) (graph after : Parts) (state : State) → Fits analysis flow point graph → IsFold widening graph after → StandsFor graph (seen state) → StandsFor after (seen state)
+  pub coarsens : (point : ℕ) (graph after : Parts) (state : State) → Fits analysis flow point graph → IsCoarse widening graph after → StandsFor graph (seen state) → StandsFor after (seen state)
 
--- which states of a run are near a state as a graph sees it: those that no step without loss tells from it
+-- which states of a run are near a state as a graph sees it: those that no step without loss tells from it; and of which graphs this is so
 pub record Nearness : Type 1 where
   pub is : graphs.State → State → Type 0
+  pub sharp : Parts → Type 0
 
 abbrev pub IsNear : Nearness → graphs.State → State → Type 0
 IsNear nearness wanted state = nearness.is wanted state
 
+abbrev pub IsSharp : Nearness → Parts → Type 0
+IsSharp nearness graph = nearness.sharp graph
+
 abbrev pub near_by : Tests → Nearness
-near_by tests = record { is = λ wanted state. tests.near wanted state ≡ true }
+near_by tests = record { is = λ wanted state. tests.near wanted state ≡ true; sharp = λ graph. tests.sharp graph ≡ true }
 
 -- some run begins near this state
 pub record IsBegun (nearness : Nearness) (flow : Flow) (next : graphs.State) : Type 0 where
@@ -106,12 +140,17 @@ pub record IsFaulting (nearness : Nearness) (flow : Flow) (number : ℕ) (edge :
   pub stands : StandsFor graph before
   pub faults : (state : State) → IsOf flow state → state.point ≡ edge.from → IsNear nearness before state → FaultsAlong flow number state kind
 
--- and nothing is added where no loss is named and the graph fits: near each state that the start and such posts stand for comes a run, and each kind of a post is met near some state
+-- and nothing is added where no loss is named and the graph fits and is sharp: near each state that the start and such posts stand for comes a run, and each kind of a post is met near some state; and
+-- the start and the graphs of such posts are sharp
 pub record IsExact (analysis : Analysis) (nearness : Nearness) (flow : Flow) : Type 0 where
   pub start : (graph : Parts) (next : graphs.State) → IsStart analysis flow graph → graphs.IsState next → StandsFor graph next → IsBegun nearness flow next
   pub steps : (number : ℕ) (edge : FlowEdge) (graph : Parts) (post : Post) (result : ℕ) (after : Parts) (next : graphs.State) →
-      slice_get flow.edges number ≡ Some edge → Fits analysis flow edge.from graph → IsPost analysis flow number graph post → post.loss ≡ None →
+      slice_get flow.edges number ≡ Some edge → Fits analysis flow edge.from graph → IsSharp nearness graph → IsPost analysis flow number graph post → post.loss ≡ None →
       slice_get post.graphs result ≡ Some after → graphs.IsState next → StandsFor after next → IsLedTo nearness flow number edge graph next
   pub faults : (number : ℕ) (edge : FlowEdge) (graph : Parts) (post : Post) (kind : ℕ) →
-      slice_get flow.edges number ≡ Some edge → Fits analysis flow edge.from graph → IsPost analysis flow number graph post → Contains post.kinds kind →
+      slice_get flow.edges number ≡ Some edge → Fits analysis flow edge.from graph → IsSharp nearness graph → IsPost analysis flow number graph post → Contains post.kinds kind →
       IsFaulting nearness flow number edge graph kind
+  pub begins : (graph : Parts) → IsStart analysis flow graph → IsSharp nearness graph
+  pub leads : (number : ℕ) (edge : FlowEdge) (graph : Parts) (post : Post) (result : ℕ) (after : Parts) →
+      slice_get flow.edges number ≡ Some edge → Fits analysis flow edge.from graph → IsSharp nearness graph → IsPost analysis flow number graph post → post.loss ≡ None →
+      slice_get post.graphs result ≡ Some after → IsSharp nearness after

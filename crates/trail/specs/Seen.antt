@@ -1,5 +1,5 @@
 -- How a graph sees a state of the flow machine.
-use Rattle.std.specs.Prelude.{◌≡◌, [], ◌++◌, Bool, true, false, All}
+use Rattle.std.specs.Prelude.{◌≡◌, ℕ, ◌<◌, [], ◌++◌, Bool, true, false, All, Contains}
 use Rattle.std.specs.Option.{option_map}
 use Rattle.graph.specs.State as graphs
 use Rattle.flow.specs.declared.instruction.Instr.{Instr}
@@ -37,3 +37,7 @@ is_ordinary instr = true
 
 abbrev pub HasNoCalls : Flow → Type 0
 HasNoCalls flow = All (λ edge. is_call edge.instr ≡ false) flow.edges
+
+-- a point to which the end of a loop's body leads back
+abbrev pub IsHead : Flow → ℕ → Type 0
+IsHead flow point = (point < flow.points) × Contains flow.heads point

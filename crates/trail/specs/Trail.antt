@@ -1,5 +1,5 @@
 -- Honest and closed trails.
-use Rattle.std.specs.Prelude.{◌≡◌, ℕ, List, true, Option, None, Some, slice_get, take, ◌⊎◌, Contains}
+use Rattle.std.specs.Prelude.{◌≡◌, ℕ, List, true, false, Option, None, Some, slice_get, take, Contains}
 use Rattle.graph.specs.declared.parts.Parts.{Parts}
 use Rattle.graph.specs.declared.post.Post.{Post}
 use Rattle.graph.specs.Meaning.{StandsFor}
@@ -11,10 +11,10 @@ use Rattle.flow.specs.InRange.{entry_of}
 use Rattle.flow.specs.Machine.{State, Went}
 use Rattle.flow.specs.Runs.{start, run, then_go}
 use Rattle.trail.specs.declared.trail.Cause.{Cause}
-use Rattle.trail.specs.declared.trail.Cause.TheVariants.{Start, Step}
+use Rattle.trail.specs.declared.trail.Cause.TheVariants.{Start, Step, Fold, Coarse}
 use Rattle.trail.specs.declared.trail.Entry.{Entry}
-use Rattle.trail.specs.Seen.{is_ordinary, seen}
-use Rattle.trail.specs.Analysis.{Analysis, Fits, IsStart, IsPost, Covers, IsTame}
+use Rattle.trail.specs.Seen.{is_ordinary, seen, IsHead}
+use Rattle.trail.specs.Analysis.{Analysis, Widening, Fits, IsStart, IsPost, Covers, IsFold, IsCoarse, IsReduced, IsTame}
 
 -- the entry of that number
 abbrev pub At : List Entry → ℕ → Entry → Type 0
@@ -35,22 +35,35 @@ pub record IsResult (analysis : Analysis) (flow : Flow) (before : List Entry) (e
   pub graph : slice_get post.graphs result ≡ Some entry.graph
   pub loss_is : post.loss ≡ loss
 
--- what a cause says of its entry
-abbrev pub Made : Analysis → Flow → List Entry → Entry → Cause → Type 0
-Made analysis flow before entry Start = (entry.point ≡ entry_of flow flow.main) × IsStart analysis flow entry.graph
-Made analysis flow before entry (Step from number result loss) = IsResult analysis flow before entry from number result loss
+-- an entry is made of an earlier one that is not kept and stands at the same loop head
+pub record IsMadeOf (Makes : Parts → Parts → Type 0) (flow : Flow) (before : List Entry) (entry : Entry) (from : ℕ) : Type 0 where
+  pub earlier : Entry
+  pub there : At before from earlier
+  pub unkept : earlier.kept ≡ false
+  pub head : IsHead flow earlier.point
+  pub stays : entry.point ≡ earlier.point
+  pub is : Makes earlier.graph entry.graph
 
-pub record IsHonest (analysis : Analysis) (flow : Flow) (before : List Entry) (entry : Entry) : Type 0 where
+-- what a cause says of its entry
+abbrev pub Made : Analysis → Widening → Flow → List Entry → Entry → Cause → Type 0
+Made analysis widening flow before entry Start = (entry.point ≡ entry_of flow flow.main) × IsStart analysis flow entry.graph
+Made analysis widening flow before entry (Step from number result loss) = IsResult analysis flow before entry from number result loss
+Made analysis widening flow before entry (Fold from) = IsMadeOf (IsFold widening) flow before entry from
+Made analysis widening flow before entry (Coarse from) = IsMadeOf (IsCoarse widening) flow before entry from
+
+pub record IsHonest (analysis : Analysis) (widening : Widening) (flow : Flow) (before : List Entry) (entry : Entry) : Type 0 where
   pub fits : Fits analysis flow entry.point entry.graph
-  pub made : Made analysis flow before entry entry.cause
+  pub made : Made analysis widening flow before entry entry.cause
   -- a kept entry was covered by none at its point that was kept then
   pub uncovered : entry.kept ≡ true → (number : ℕ) (earlier : Entry) → At before number earlier → earlier.kept ≡ true →
       earlier.point ≡ entry.point → Covers analysis earlier.graph entry.graph → ⊥
+  -- and at a loop head it is reduced
+  pub reduced : entry.kept ≡ true → IsHead flow entry.point → IsReduced widening entry.graph
   -- no two entries have one cause
   pub new : (number : ℕ) (earlier : Entry) → At before number earlier → earlier.cause ≡ entry.cause → ⊥
 
-abbrev pub AreHonest : Analysis → Flow → List Entry → Type 0
-AreHonest analysis flow trail = (number : ℕ) (entry : Entry) → At trail number entry → IsHonest analysis flow (take number trail) entry
+abbrev pub AreHonest : Analysis → Widening → Flow → List Entry → Type 0
+AreHonest analysis widening flow trail = (number : ℕ) (entry : Entry) → At trail number entry → IsHonest analysis widening flow (take number trail) entry
 
 -- a kept entry at the same point covers the entry
 pub record IsCovered (analysis : Analysis) (trail : List Entry) (entry : Entry) : Type 0 where
@@ -60,6 +73,13 @@ pub record IsCovered (analysis : Analysis) (trail : List Entry) (entry : Entry) 
   pub kept : other.kept ≡ true
   pub point : other.point ≡ entry.point
   pub covers : Covers analysis other.graph entry.graph
+
+-- an entry is kept, a kept one covers it, or a fold or a coarsening that was made of it is settled in turn
+pub data IsSettled (analysis : Analysis) (trail : List Entry) : ℕ → Type 0 where
+  SettledKept : (number : ℕ) (entry : Entry) → At trail number entry → entry.kept ≡ true → IsSettled analysis trail number
+  SettledCovered : (number : ℕ) (entry : Entry) → At trail number entry → IsCovered analysis trail entry → IsSettled analysis trail number
+  SettledFold : (number later : ℕ) (entry : Entry) → At trail later entry → entry.cause ≡ Fold number → IsSettled analysis trail later → IsSettled analysis trail number
+  SettledCoarse : (number later : ℕ) (entry : Entry) → At trail later entry → entry.cause ≡ Coarse number → IsSettled analysis trail later → IsSettled analysis trail number
 
 -- an entry with that cause, point and graph stands in the trail
 pub record StandsAsStep (trail : List Entry) (cause : Cause) (point : ℕ) (graph : Parts) : Type 0 where
@@ -85,7 +105,7 @@ IsExpanded analysis flow trail from entry =
 
 pub record IsClosed (analysis : Analysis) (flow : Flow) (trail : List Entry) : Type 0 where
   pub begins : (number : ℕ) × (entry : Entry) × At trail number entry × (entry.cause ≡ Start)
-  pub settled : (number : ℕ) (entry : Entry) → At trail number entry → (entry.kept ≡ true) ⊎ IsCovered analysis trail entry
+  pub settled : (number : ℕ) (entry : Entry) → At trail number entry → IsSettled analysis trail number
   pub expanded : (number : ℕ) (entry : Entry) → At trail number entry → entry.kept ≡ true → IsExpanded analysis flow trail number entry
 
 -- a post of the entry along this edge has the kind

@@ -19,7 +19,7 @@ use Rattle.flow.specs.Valid.{IsFlow}
 use Rattle.trail.specs.declared.trail.Cause.TheVariants.{Start, Step}
 use Rattle.trail.specs.declared.trail.Entry.{Entry}
 use Rattle.trail.specs.Seen.{HasNoCalls, seen}
-use Rattle.trail.specs.Analysis.{Analysis, IsSound, Nearness, IsExact}
+use Rattle.trail.specs.Analysis.{Analysis, Widening, IsSound, Nearness, IsExact}
 use Rattle.trail.specs.Theorems.{HaveOffsets}
 use Rattle.trail.specs.Trail.{AreHonest, IsClosed, IsClean, AreTame, IsFaultTold, IsReal, HasKind}
 
@@ -71,6 +71,14 @@ for_seven = record {
   covers = λ wide narrow. wide ≡ narrow;
 }
 
+-- without loops nothing is made of a graph at a loop head
+abbrev pub nothing_widened : Widening
+nothing_widened = record {
+  is_fold = λ graph after. ⊥;
+  is_coarse = λ graph after. ⊥;
+  is_reduced = λ graph. Unit {0};
+}
+
 abbrev pub first_entry : Entry
 first_entry = record { point = 0; cause = Start; graph = no_parts; kept = true }
 
@@ -85,8 +93,8 @@ pub record IsSevenSafe : Type 0 where
   pub flow : IsFlow seven
   pub offsets : HaveOffsets seven
   pub calls : HasNoCalls seven
-  pub sound : IsSound for_seven seven
-  pub honest : AreHonest for_seven seven (trail_of (holds 7 4))
+  pub sound : IsSound for_seven nothing_widened seven
+  pub honest : AreHonest for_seven nothing_widened seven (trail_of (holds 7 4))
   pub closed : IsClosed for_seven seven (trail_of (holds 7 4))
   pub clean : IsClean for_seven seven (trail_of (holds 7 4))
   pub safe : (kind : ℕ) (place : Place) → RunFaults seven kind place → ⊥
@@ -129,7 +137,7 @@ for_null = record {
 
 -- near where registers hold the same
 abbrev pub same_registers : Nearness
-same_registers = record { is = λ wanted state. (register : ℕ) → (seen state).registers register ≡ wanted.registers register }
+same_registers = record { is = λ wanted state. (register : ℕ) → (seen state).registers register ≡ wanted.registers register; sharp = λ graph. Unit {0} }
 
 pub record IsNullMet : Type 0 where
   pub flow : IsFlow null
@@ -137,7 +145,7 @@ pub record IsNullMet : Type 0 where
   pub calls : HasNoCalls null
   pub exclusive : IsExclusive null
   pub exact : IsExact for_null same_registers null
-  pub honest : AreHonest for_null null (trail_of (holds 0 8))
+  pub honest : AreHonest for_null nothing_widened null (trail_of (holds 0 8))
   pub real : IsReal (trail_of (holds 0 8)) 1
   pub has : HasKind for_null null (second_entry (holds 0 8)) 1 null_pointer_dereference
   pub met : RunFaults null null_pointer_dereference (here 2)
@@ -147,8 +155,8 @@ pub record IsNullTold : Type 0 where
   pub flow : IsFlow null
   pub offsets : HaveOffsets null
   pub calls : HasNoCalls null
-  pub sound : IsSound for_null null
-  pub honest : AreHonest for_null null (trail_of (holds 0 8))
+  pub sound : IsSound for_null nothing_widened null
+  pub honest : AreHonest for_null nothing_widened null (trail_of (holds 0 8))
   pub closed : IsClosed for_null null (trail_of (holds 0 8))
   pub tame : AreTame for_null null (trail_of (holds 0 8))
   pub told : (kind : ℕ) (place : Place) → RunFaults null kind place → IsFaultTold for_null null (trail_of (holds 0 8)) kind place

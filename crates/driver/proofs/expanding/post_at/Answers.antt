@@ -3,7 +3,7 @@ use Rattle.driver.proofs.Followed.{asked_there, entry_there, post_told, stop_tol
 use Rattle.driver.proofs.expanding.post_at.Goals as goal
 
 pub post-requires-clause-fits : goal.post-requires-clause-fits
-post-requires-clause-fits c = asked_there c.args.flow.now c.args.trail.now c.args.at c.args.point c.args.number c.args.edge.now c.in-Some.entry.now c.requires.is c.requires.stands c.requires.leads
+post-requires-clause-fits c = asked_there c.args.flow.now c.args.limits.now c.args.trail.now c.args.at c.args.point c.args.number c.args.edge.now c.in-Some.entry.now c.requires.is c.requires.stands c.requires.leads
     (entry_there c.args.trail.now c.args.trail.now c.args.at c.in-Some.entry.now refl c.in-Some.ensures.lookup.3.0 c.in-Some.ensures.lookup.1)
 
 pub returns-in-Ok-left_post-clause-is : goal.returns-in-Ok-left_post-clause-is
