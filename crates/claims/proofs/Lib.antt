@@ -2,3 +2,4 @@ pub mod Warnings
 pub mod Meanings
 pub mod Playing
 pub mod OfItems
+pub mod Exactly

@@ -72,7 +72,7 @@ module _ (limits : Limits) (file bytes : List ℕ) where
   spent_of has = spent_found has.t has.p has.judgement has.holds has.found has.answer_is
 
   large_found : (t : Tokens) (p : Program) (found : Judgement) → HoldsProgram file bytes Lp64 false t p → IsJudgement p (within limits) found
-      → answer_of_judgement t found ≡ Some Large → MeansLarge file bytes
+      → answer_of_judgement t found ≡ Some Large → MeansLarge limits file bytes
   large_found t p judgement.NoGraph holds is answers = absurd (none-some Large answers)
   large_found t p (judgement.Judged flow (analysis.Safe trail)) holds is answers = absurd (let same = same_Some Safe Large answers in cc)
   large_found t p (judgement.Judged flow (analysis.Warned warnings trail complete next)) holds is answers =
@@ -81,7 +81,7 @@ module _ (limits : Limits) (file bytes : List ℕ) where
   large_found t p (judgement.Judged flow (analysis.NotYet place)) holds is answers = absurd (let same = same_Some (NotYet (place_at t place.at)) Large answers in cc)
   large_found t p (judgement.Judged flow (analysis.Large trail entry)) holds is answers = (t, p, flow, holds, is.graph, (trail, entry, is.is))
 
-  large_of : HasVerdict limits file bytes Large → MeansLarge file bytes
+  large_of : HasVerdict limits file bytes Large → MeansLarge limits file bytes
   large_of has = large_found has.t has.p has.judgement has.holds has.found has.answer_is
 
   not_yet_found : (t : Tokens) (p : Program) (found : Judgement) (place : Place) → HoldsProgram file bytes Lp64 false t p → IsJudgement p (within limits) found
@@ -114,15 +114,15 @@ module _ (tells : Bool) (content : Option (List ℕ)) (left : List ℕ) (limits 
   found warnings complete answered = of_file tells content left limits file names (Warned warnings complete) (λ bytes. MeansFound limits file bytes warnings complete)
       (λ bytes. found_of limits file bytes warnings complete) answered
 
-  pub complete : (warnings : List Warning) → IsAnswered tells content left limits file names (Warned warnings true) → OfFile tells content (λ bytes. MeansComplete file bytes warnings)
-  complete warnings answered = of_file tells content left limits file names (Warned warnings true) (λ bytes. MeansComplete file bytes warnings)
+  pub complete : (warnings : List Warning) → IsAnswered tells content left limits file names (Warned warnings true) → OfFile tells content (λ bytes. MeansComplete limits file bytes warnings)
+  complete warnings answered = of_file tells content left limits file names (Warned warnings true) (λ bytes. MeansComplete limits file bytes warnings)
       (λ bytes. complete_of limits file bytes warnings) answered
 
   pub spent : IsAnswered tells content left limits file names Spent → OfFile tells content (MeansSpent limits file)
   spent answered = of_file tells content left limits file names Spent (MeansSpent limits file) (λ bytes. spent_of limits file bytes) answered
 
-  pub large : IsAnswered tells content left limits file names Large → OfFile tells content (MeansLarge file)
-  large answered = of_file tells content left limits file names Large (MeansLarge file) (λ bytes. large_of limits file bytes) answered
+  pub large : IsAnswered tells content left limits file names Large → OfFile tells content (MeansLarge limits file)
+  large answered = of_file tells content left limits file names Large (MeansLarge limits file) (λ bytes. large_of limits file bytes) answered
 
   pub gave_up : (number : ℕ) (place : Place) → IsAnswered tells content left limits file names (Construct number place)
       → OfFile tells content (λ bytes. MeansGaveUp file bytes number place)

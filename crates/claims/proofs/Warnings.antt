@@ -1,18 +1,17 @@
 -- What `warned` says of the program, by the verdict that it is the answer of.
-use Rattle.std.proofs.Common.{◌≡◌, ℕ, zero, suc, ◌<◌, ◌∙◌, Bool, true, false, Option, None, Some, List, [], ◌∷◌, length, map, get_or, option_map, All, refl, sym, ap, subst, arith}
+use Rattle.std.proofs.Common.{◌≡◌, ℕ, zero, suc, ◌<◌, ◌∙◌, Bool, true, Option, None, Some, List, [], ◌∷◌, length, map, get_or, option_map, All, refl, sym, ap, subst, arith}
 use Rattle.std.proofs.lemmas.Option.{same_Some, none-some, slice_get-map}
-use Rattle.cbase.specs.declared.abi.Abi.TheVariants.{Lp64}
-use Rattle.cbase.specs.declared.place.Place.{Place}
 use Rattle.ctokens.specs.declared.token.Tokens.{Tokens}
 use Rattle.ccheck.specs.Refusals.{place_at}
 use Rattle.c_machine.specs.Program.{Program}
 use Rattle.flow.specs.declared.flow_graph.Flow.{Flow}
 use Rattle.lowering.specs.Lowering.{flow_of}
-use Rattle.trail.specs.Trail.{AreTame, IsClosed}
+use Rattle.trail.specs.Trail.{IsClosed}
 use Rattle.trail.specs.declared.trail.Entry.{Entry}
 use Rattle.driver.specs.Driven.{driven}
 use Rattle.driver.specs.Telling.{IsAmong}
 use Rattle.driver.specs.Verdicts.{EndsSo, IsWarned}
+use Rattle.driver.specs.declared.verdict.Limits.{Limits as AnalysisLimits}
 use Rattle.driver.specs.declared.verdict.Verdict.TheVariants as analysis
 use Rattle.driver.specs.declared.verdict.Warning.{Warning as AnalysisWarning}
 use Rattle.judgement.specs.Judged.{AreMet, DoesTellAll, IsJudgement, SaysWarned}
@@ -32,7 +31,7 @@ record HasWarned (limits : Limits) (t : Tokens) (p : Program) (warnings : List W
   told : List AnalysisWarning
   trail : List Entry
   next : Option Entry
-  is : IsWarned flow limits.budget told trail complete next
+  is : IsWarned flow (within limits) told trail complete next
   says : SaysWarned p flow told trail complete
   lists : map (warning_at t) told ≡ warnings
 
@@ -49,7 +48,7 @@ has_warned limits t p (judgement.Judged flow (analysis.Warned told trail whole n
       told = told;
       trail = trail;
       next = next;
-      is = subst (λ (whole : Bool). IsWarned flow limits.budget told trail whole next) completes is.is;
+      is = subst (λ (whole : Bool). IsWarned flow (within limits) told trail whole next) completes is.is;
       says = subst (λ (whole : Bool). SaysWarned p flow told trail whole) completes is.says;
       lists = lists;
     }
@@ -61,7 +60,7 @@ has_warned limits t p (judgement.Judged flow (analysis.Large trail entry)) warni
     absurd (let same = same_Some Large (Warned warnings complete) answers in cc)
 
 -- the errors are met
-among_told : (t : Tokens) (told : List AnalysisWarning) (k : ℕ) (d : Warning) → k < length (map (warning_at t) told) → (warning : AnalysisWarning) × IsAmong told warning
+pub among_told : (t : Tokens) (told : List AnalysisWarning) (k : ℕ) (d : Warning) → k < length (map (warning_at t) told) → (warning : AnalysisWarning) × IsAmong told warning
     × (get_or (map (warning_at t) told) k d ≡ warning_at t warning)
 among_told t [] k d within = absurd (omega (arith, within))
 among_told t (first ∷ rest) zero d within = (first, record { number = zero; there = refl }, refl)
@@ -77,7 +76,7 @@ are_met t p told met = λ k d within.
     (λ error. let (choices, leads) = met warning among error in (choices, warning.place, leads, refl))
 
 -- each fault is told of
-all_printed : (t : Tokens) (p : Program) (told : List AnalysisWarning) → DoesTellAll p told → AreAllPrinted t p (map (warning_at t) told)
+pub all_printed : (t : Tokens) (p : Program) (told : List AnalysisWarning) → DoesTellAll p told → AreAllPrinted t p (map (warning_at t) told)
 all_printed t p told tells choices kind token leads =
     let found = tells choices kind token leads in record {
       number = found.among.number;
@@ -87,9 +86,9 @@ all_printed t p told tells choices kind token leads =
       place_is = ap (place_at t) found.token_is;
     }
 
-closed_of : (flow : Flow) (budget : ℕ) (trail : List Entry) (next : Option Entry) → EndsSo flow budget trail true next → IsClosed driven flow trail
-closed_of flow budget trail None closed = closed
-closed_of flow budget trail (Some next) ends = absurd ends
+closed_of : (flow : Flow) (limits : AnalysisLimits) (trail : List Entry) (next : Option Entry) → EndsSo flow limits trail true next → IsClosed driven flow trail
+closed_of flow limits trail None closed = closed
+closed_of flow limits trail (Some next) ends = absurd ends
 
 module _ (limits : Limits) (file bytes : List ℕ) (warnings : List Warning) where
   pub warned_of : (complete : Bool) → HasVerdict limits file bytes (Warned warnings complete) → MeansWarned file bytes warnings
@@ -102,7 +101,7 @@ module _ (limits : Limits) (file bytes : List ℕ) (warnings : List Warning) whe
       let so = has_warned limits has.t has.p has.judgement warnings complete has.found has.answer_is in
       (has.t, has.p, so.flow, has.holds, so.graph, (so.told, so.trail, so.next, so.is, sym so.lists))
 
-  pub complete_of : HasVerdict limits file bytes (Warned warnings true) → MeansComplete file bytes warnings
+  pub complete_of : HasVerdict limits file bytes (Warned warnings true) → MeansComplete limits file bytes warnings
   complete_of has =
       let so = has_warned limits has.t has.p has.judgement warnings true has.found has.answer_is in (
         has.t,
@@ -112,6 +111,6 @@ module _ (limits : Limits) (file bytes : List ℕ) (warnings : List Warning) whe
         has.holds,
         so.graph,
         so.is.honest,
-        closed_of so.flow limits.budget so.trail so.next so.is.ends,
+        closed_of so.flow (within limits) so.trail so.next so.is.ends,
         λ tame. subst (AreAllPrinted has.t has.p) so.lists (all_printed has.t has.p so.told (so.says.tells refl tame)),
       )

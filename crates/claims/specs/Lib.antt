@@ -12,3 +12,4 @@ pub mod ReadFault
 pub mod Played
 pub mod NoChoices
 pub mod OfItems
+pub mod Plain

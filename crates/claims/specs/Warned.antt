@@ -13,12 +13,12 @@ use Rattle.flow.specs.declared.flow_graph.Flow.{Flow}
 use Rattle.lowering.specs.Lowering.{flow_of}
 use Rattle.trail.specs.Trail.{AreHonest, AreTame, IsClosed}
 use Rattle.trail.specs.declared.trail.Entry.{Entry}
-use Rattle.driver.specs.Driven.{driven}
+use Rattle.driver.specs.Driven.{driven, widening}
 use Rattle.driver.specs.Verdicts.{IsWarned}
 use Rattle.driver.specs.declared.verdict.Warning.{Warning as AnalysisWarning}
 use Rattle.report.specs.declared.limits.Limits.{Limits}
 use Rattle.report.specs.declared.warning.Warning.{Warning}
-use Rattle.verdicts.specs.Found.{warning_at}
+use Rattle.verdicts.specs.Found.{warning_at, within}
 use Rattle.verdicts.specs.Program.{HoldsProgram}
 use Rattle.claims.specs.Analysed.{OnGraph}
 
@@ -36,7 +36,7 @@ MeansWarned file bytes warnings =
 -- the budget was spent before
 abbrev pub MeansFound : Limits → List ℕ → List ℕ → List Warning → Bool → Type 0
 MeansFound limits file bytes warnings complete =
-    OnGraph file bytes (λ t flow. (told : List AnalysisWarning) × (trail : List Entry) × (next : Option Entry) × IsWarned flow limits.budget told trail complete next
+    OnGraph file bytes (λ t flow. (told : List AnalysisWarning) × (trail : List Entry) × (next : Option Entry) × IsWarned flow (within limits) told trail complete next
     × (warnings ≡ map (warning_at t) told))
 
 -- a warning tells of a fault of this kind, at this place
@@ -53,7 +53,7 @@ AreAllPrinted t p warnings = (choices : List Choice) (kind : ℕ) (token : Place
 
 -- The bytes hold a program, and a closed trail of its flow graph is such that each fault that a run of the program meets is told of, unless a post of a kept entry names loss 4 beside a kind: that is an
 -- access through a word of which nothing is known, behind which nothing is followed
-abbrev pub MeansComplete : List ℕ → List ℕ → List Warning → Type 0
-MeansComplete file bytes warnings =
+abbrev pub MeansComplete : Limits → List ℕ → List ℕ → List Warning → Type 0
+MeansComplete limits file bytes warnings =
     (t : Tokens) × (p : Program) × (flow : Flow) × (trail : List Entry) × HoldsProgram file bytes Lp64 false t p × (flow_of p ≡ Some flow)
-    × AreHonest driven flow trail × IsClosed driven flow trail × (AreTame driven flow trail → AreAllPrinted t p warnings)
+    × AreHonest driven (widening limits.int_limit) flow trail × IsClosed driven flow trail × (AreTame driven flow trail → AreAllPrinted t p warnings)

@@ -9,9 +9,11 @@ ghost use Rattle.report.specs.declared.answer.Why.{Why};
 ghost use Rattle.report.specs.declared.limits.Limits.{Limits};
 ghost use Rattle.report.specs.declared.warning.Warning.{Warning};
 ghost use Rattle.verdicts.specs.Answered.{IsAnswered};
+ghost use Rattle.verdicts.specs.Verdict.{IsVerdict};
 ghost use Rattle.claims.specs.OfFile.{OfFile};
 ghost use Rattle.claims.specs.Safe.{MeansSafe};
 ghost use Rattle.claims.specs.Warned.{MeansComplete, MeansFound, MeansWarned};
+ghost use Rattle.claims.specs.Plain.{MeansExactly};
 ghost use Rattle.claims.specs.GaveUp.{MeansGaveUp};
 ghost use Rattle.claims.specs.Limited.{MeansLarge, MeansSpent};
 ghost use Rattle.claims.specs.NotRead.{MeansNoToken, MeansTooDeep, MeansNoMain, MeansSyntax, MeansRule};
@@ -48,7 +50,17 @@ pub fn warnings_mean()
 pub fn complete_warnings_mean()
     ensures { (tells : Bool) (content : Option (Items ℕ)) (left file : Items ℕ) (limits : Limits) (names : Items (Items ℕ)) (warnings : Items Warning)
         → IsAnswered tells content left limits file names (Answer.Warned warnings true)
-        → OfFile tells content (λ bytes. MeansComplete file bytes warnings) }
+        → OfFile tells content (λ bytes. MeansComplete limits file bytes warnings) }
+{}
+
+/// Where the content of FILE is told, and holds a plain program in whose flow graph at most as many walks lead on from main's entry as states may be kept: the answer is `safe`, and no run of the
+/// program meets a fault, or `warned`, with exactly the faults of its runs, each as an error. Premises: the clauses `judged` and `verdict`.
+pub fn plain_means()
+    ensures { (tells : Bool) (content : Option (Items ℕ)) (left file whole : Items ℕ) (limits : Limits) (names : Items (Items ℕ)) (answer : Answer)
+        → IsTrue tells → content ≡ Some whole
+        → IsVerdict answer
+        → IsAnswered tells content left limits file names answer
+        → MeansExactly limits file whole answer }
 {}
 
 /// `gave up: budget of N states spent`: they hold a program, and on its flow graph the analysis spent its budget, of N kept states, where there was one more.
@@ -64,7 +76,7 @@ pub fn spent_means()
 pub fn large_means()
     ensures { (tells : Bool) (content : Option (Items ℕ)) (left file : Items ℕ) (limits : Limits) (names : Items (Items ℕ))
         → IsAnswered tells content left limits file names Answer.Large
-        → OfFile tells content (MeansLarge file) }
+        → OfFile tells content (MeansLarge limits file) }
 {}
 
 /// `gave up`: of the items that main needs the first that is refused is so for the construct of this number, at this place.

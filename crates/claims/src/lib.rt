@@ -8,8 +8,8 @@ mod replaying;
 
 pub use judging::{
     complete_warnings_mean, gave_up_means, large_means, no_main_means, no_token_means,
-    not_yet_means, read_fault_means, rule_means, safe_means, spent_means, syntax_means,
-    too_deep_means, too_long_means, usage_means, warned_means, warnings_mean,
+    not_yet_means, plain_means, read_fault_means, rule_means, safe_means, spent_means,
+    syntax_means, too_deep_means, too_long_means, usage_means, warned_means, warnings_mean,
 };
 pub use offering::definitions_are_offered;
 pub use replaying::{

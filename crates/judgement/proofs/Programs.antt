@@ -72,4 +72,4 @@ verdict_says p limits flow (NotYet place) is valid found = tt
 
 pub graph_judged : (limits : Limits) (flow : Flow) (verdict : Verdict) → IsFlow flow → IsVerdict flow limits verdict
     → (p : Program) → flow_of p ≡ Some flow → IsJudgement p limits (Judged flow verdict)
-graph_judged limits flow verdict valid found p is = record { graph = is; is = found; says = verdict_says p limits flow verdict is valid found }
+graph_judged limits flow verdict valid found p is = record { graph = is; valid = valid; is = found; says = verdict_says p limits flow verdict is valid found }

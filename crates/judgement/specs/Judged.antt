@@ -6,6 +6,7 @@ use Rattle.c_machine.specs.Program.{Program}
 use Rattle.c_machine.specs.Run.{IsSound, Leads}
 use Rattle.c_machine.specs.Trees.{text_of}
 use Rattle.flow.specs.declared.flow_graph.Flow.{Flow}
+use Rattle.flow.specs.Valid.{IsFlow}
 use Rattle.lowering.specs.Lowering.{flow_of}
 use Rattle.trail.specs.declared.trail.Entry.{Entry}
 use Rattle.trail.specs.Trail.{AreTame}
@@ -44,9 +45,10 @@ Says p flow (Spent trail next) = Unit {0}
 Says p flow (Large trail entry) = Unit {0}
 Says p flow (NotYet place) = Unit {0}
 
--- the graph is that of the program, the analysis of it comes to the verdict, and what that says of the program is so
+-- the graph is that of the program and keeps all that flow graphs keep, the analysis of it comes to the verdict, and what that says of the program is so
 pub record IsJudged (p : Program) (limits : Limits) (flow : Flow) (verdict : Verdict) : Type 0 where
   pub graph : flow_of p ≡ Some flow
+  pub valid : IsFlow flow
   pub is : IsVerdict flow limits verdict
   pub says : Says p flow verdict
 

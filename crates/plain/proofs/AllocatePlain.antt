@@ -66,7 +66,7 @@ pub allocate_plain : (into bytes : ℕ) (zeroed : Bool) → GoesPlainlyInRoom (A
 allocate_plain into bytes zeroed flow point parts post state marks step room =
     plain_post (Allocates bytes zeroed into) state (gained_marks [] into false (with_block_marks (length state.memory) (new_mark zeroed) marks)) (allocate_post parts bytes zeroed into) post step.posted (record {
       loss = ap (λ (b : Bool). if b then Some 3 else None)
-          (leads_nowhere parts step.graph step.may.fits.regions step.may.fits.ports state marks step.shown.given step.shown.by);
+          (leads_nowhere parts step.graph step.fits.regions step.fits.ports state marks step.shown.given step.shown.by);
       single = omega arith;
       shows = λ next steps. record {
         graph = with_allocated bytes zeroed into parts;
@@ -74,8 +74,8 @@ allocate_plain into bytes zeroed flow point parts post state marks step room =
         shown = record {
           given = with_word (length parts.values) (To (length state.memory) (pos 0)) (given next steps);
           by = allocated_shown into bytes zeroed parts step.graph (leb-true _ _ step.may.sizes) few state next marks (given next steps)
-              (block_shown Heap bytes zeroed parts step.graph step.may.fits.regions state step.is marks step.shown.given step.shown.by next.memory steps.block)
-              (own_block Heap bytes zeroed parts step.graph step.may.fits.regions state step.is marks step.shown.given step.shown.by next.memory steps.block) steps;
+              (block_shown Heap bytes zeroed parts step.graph step.fits.regions state step.is marks step.shown.given step.shown.by next.memory steps.block)
+              (own_block Heap bytes zeroed parts step.graph step.fits.regions state step.is marks step.shown.given step.shown.by next.memory steps.block) steps;
         };
       };
     })
@@ -88,4 +88,4 @@ allocate_plain into bytes zeroed flow point parts post state marks step room =
         true_is false is = sym is
 
     given : (next : State) → Allocates bytes zeroed into state next → Assignment
-    given next steps = now Heap bytes zeroed parts step.graph step.may.fits.regions state step.is marks step.shown.given step.shown.by next.memory steps.block
+    given next steps = now Heap bytes zeroed parts step.graph step.fits.regions state step.is marks step.shown.given step.shown.by next.memory steps.block

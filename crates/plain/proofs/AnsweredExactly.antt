@@ -24,7 +24,7 @@ some_faults flow (first ∷ rest) some met none = none first.kind first.place (m
 
 pub answered_exactly : AreAnsweredExactly
 answered_exactly flow limits (Safe trail) valid offsets few plain verdict all =
-    let is : IsSafe flow trail = verdict in
+    let is : IsSafe flow limits trail = verdict in
     record {
       safe = (λ same. is.safe, λ none. refl);
       errors = λ warning among. absurd (none_among warning among);
@@ -32,7 +32,7 @@ answered_exactly flow limits (Safe trail) valid offsets few plain verdict all =
       tells = λ kind place faults. absurd (is.safe kind place faults);
     }
 answered_exactly flow limits (Warned warnings trail complete next) valid offsets few plain verdict all =
-    let is : IsWarned flow limits.budget warnings trail complete next = verdict in
+    let is : IsWarned flow limits warnings trail complete next = verdict in
     let alone : AreErrorsAlone flow warnings complete = warnings_are_errors flow limits warnings trail complete next valid offsets few plain verdict in
     record {
       safe = (λ same. absurd (false≢true same), λ none. absurd (some_faults flow warnings is.some alone.met none));

@@ -28,7 +28,7 @@ use Rattle.flow.specs.declared.flow_graph.Flow.{Flow}
 use Rattle.reinterpret.specs.Comparing.{is_inside_live, null_compared, unsure, values_compared}
 use Rattle.reinterpret.specs.declared.comparison.Comparison.{Comparison}
 use Rattle.reinterpret.specs.declared.comparison.Comparison.TheVariants as known
-use Rattle.transfer.specs.Fitting.{FitsAt}
+use Rattle.transfer.specs.OfRegions.{FitsOfRegions}
 use Rattle.transfer.proofs.Ready.{names_none}
 use Rattle.plain.specs.Conditions.{compares_plainly}
 use Rattle.plain.specs.Conditions as conditions
@@ -65,7 +65,7 @@ constant_pair parts kept other number size size' is is' same sized =
     by_size false true any = refl
     by_size false false any = any
 
-module _ (flow : Flow) (point : ℕ) (parts : Parts) (fits : FitsAt flow point parts) (graph : IsGraph parts) (state : State) (given : Assignment) (meets : Meets (maps_of parts) state given) where
+module _ (flow : Flow) (point : ℕ) (parts : Parts) (fits : FitsOfRegions flow point parts) (graph : IsGraph parts) (state : State) (given : Assignment) (meets : Meets (maps_of parts) state given) where
   -- an address inside a live block is one inside a live object
   inside_there : (key object : ℕ) (offset : ℤ) (target : Target) → value_at parts.values key ≡ Some (Address object offset target) → conditions.is_inside_live state.memory (given.word key) ≡ true →
       is_inside_live parts (Address object offset target) ≡ true
@@ -73,7 +73,7 @@ module _ (flow : Flow) (point : ℕ) (parts : Parts) (fits : FitsAt flow point p
       ap (λ (o : Option Object). option_map_or (λ found. found.live && is_inside found.size offset) o false) region.is ∙ by_life region.found.live refl
     where
       here : value_at parts.values key ≡ Some (Address object offset Region)
-      here = is ∙ ap (λ (t : Target). Some (Address object offset t)) (region_target object offset target (names_none flow point parts fits graph key (Address object offset target) is))
+      here = is ∙ ap (λ (t : Target). Some (Address object offset t)) (region_target object offset target (names_none parts fits.regions graph key (Address object offset target) is))
 
       region : IsRegionAt parts state given graph.well_formed meets key 0 object
       region = region_at parts state given graph.well_formed meets key 0 object offset here

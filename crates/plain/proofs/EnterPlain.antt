@@ -177,7 +177,7 @@ enter_plain variables flow point parts post state marks step room =
       shows = λ next steps. record {
         graph = with_entered variables (map (size_in flow) variables) parts;
         among = (0, omega arith, refl);
-        shown = all_shown variables (map (size_in flow) variables) parts step.graph step.may.fits.regions (entered_ready flow point (Enter variables) parts step.may step.graph variables variables refl refl) few
+        shown = all_shown variables (map (size_in flow) variables) parts step.graph step.fits.regions (entered_ready flow point (Enter variables) parts step.may step.graph variables variables refl refl) few
             state next step.is marks step.shown.given step.shown.by steps;
       };
     })
@@ -191,4 +191,4 @@ enter_plain variables flow point parts post state marks step room =
 
     by_variables : (which : List ℕ) → loss_entering which parts ≡ None
     by_variables [] = refl
-    by_variables (variable ∷ rest) = ap (λ (b : Bool). if b then Some 3 else None) (leads_nowhere parts step.graph step.may.fits.regions step.may.fits.ports state marks step.shown.given step.shown.by)
+    by_variables (variable ∷ rest) = ap (λ (b : Bool). if b then Some 3 else None) (leads_nowhere parts step.graph step.fits.regions step.fits.ports state marks step.shown.given step.shown.by)

@@ -15,6 +15,7 @@ use Rattle.flow.specs.Walks.{is_return}
 use Rattle.trail.specs.Seen.{HasNoCalls, is_call}
 use Rattle.plain.specs.Example.{edge, standing, width, example, IsExamplePlain}
 use Rattle.plain.proofs.ExamplePlain.{example_plain}
+use Rattle.plain.proofs.ExampleWalks.{example_small, example_walks}
 
 nine : {A : Type 0} (P : A → Type 0) (a b c d e f g h i : A) → P a → P b → P c → P d → P e → P f → P g → P h → P i → All P (a ∷ b ∷ c ∷ d ∷ e ∷ f ∷ g ∷ h ∷ i ∷ [])
 nine P a b c d e f g h i pa pb pc pd pe pf pg ph pi =
@@ -88,4 +89,4 @@ no_calls : HasNoCalls example
 no_calls = on_edges (λ edge. is_call edge.instr ≡ false) refl refl refl refl refl refl refl refl refl
 
 pub example_meets : IsExamplePlain
-example_meets = record { valid = example_flow; offsets = All-nil (λ scalar. HasInitialOffset scalar.word); calls = no_calls; few = omega arith; plain = example_plain }
+example_meets = record { valid = example_flow; offsets = All-nil (λ scalar. HasInitialOffset scalar.word); calls = no_calls; small = example_small; walks = example_walks; plain = example_plain }

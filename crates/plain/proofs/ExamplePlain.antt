@@ -236,4 +236,4 @@ asked _ _ (At7 base contents) found stands = subst (λ (e : FlowEdge). IsPlainAt
 asked _ _ (At8 base contents) found stands = subst (λ (e : FlowEdge). IsPlainAt e.instr (seen [] (s8 base contents)) (m8 base contents)) (same_Some _ _ stands) tt
 
 pub example_plain : IsPlain example
-example_plain = record { at = λ state marks number found run stands here. asked state marks (all_at state marks run) found (edge_there state.point number found stands here); starts = λ choices state goes. tt }
+example_plain = record { heads = refl; at = λ state marks number found run stands here. asked state marks (all_at state marks run) found (edge_there state.point number found stands here) }

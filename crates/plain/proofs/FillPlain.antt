@@ -118,7 +118,7 @@ module _ (flow : Flow) (point : ℕ) (at from count : ℕ) (parts : Parts) (post
     zeros_of (Address object offset kind) is const = absurd (false≢true const)
 
     zeros : (fills_zeros value.value ≡ true) × (address_number state.memory (step.shown.given.word source) % 256 ≡ 0)
-    zeros = zeros_of value.value value.is (number_value parts state marks step.shown.given step.shown.by flow point step.may.fits step.graph from source value.value step.plain.source source_held value.is)
+    zeros = zeros_of value.value value.is (number_value parts state marks step.shown.given step.shown.by flow point step.fits step.graph from source value.value step.plain.source source_held value.is)
 
     post_is : (size : ℕ) → fill_post parts at from size ≡ filled_by parts gone size target.0 (value_at parts.values source)
     post_is size = fill_held parts at from size target.0 source target.1 source_held

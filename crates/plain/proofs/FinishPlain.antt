@@ -129,7 +129,7 @@ module _ (parts : Parts) (graph : IsGraph parts) (regions : list_all (λ (entry 
 pub finish_plain : (registers : List ℕ) → GoesPlainly (Finish registers)
 finish_plain registers flow point parts post state marks step =
     plain_post (Finishes registers) state (emptied_marks registers marks) (finish_post parts registers) post step.posted
-    (looked_plain (without_registers registers parts) (graph_without registers parts step.graph) step.may.fits.regions step.may.fits.ports emptied (emptied_marks registers marks) step.shown.given
+    (looked_plain (without_registers registers parts) (graph_without registers parts step.graph) step.fits.regions step.fits.ports emptied (emptied_marks registers marks) step.shown.given
     (emptied_shown parts state marks step.shown.given step.shown.by registers emptied emptied_leaves) (Finishes registers) state (emptied_marks registers marks)
     (λ next steps. emptied_state registers parts step.graph state next step.is steps.leaves)
     (λ next steps. steps.none)

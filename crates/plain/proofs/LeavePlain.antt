@@ -140,7 +140,7 @@ kept_shown parts other state next marks given kept shown meets = record {
 pub leave_plain : (variables : List ℕ) → GoesPlainly (Leave variables)
 leave_plain variables flow point parts post state marks step =
     plain_post (LeavesScope variables) state marks (leave_post parts variables) post step.posted
-    (looked_plain (left variables parts) (all_graph variables parts step.graph may) kept.regions (kept.ports ∙ step.may.fits.ports) ended.next marks step.shown.given (shown ended.next ended.ends) (LeavesScope variables) state marks
+    (looked_plain (left variables parts) (all_graph variables parts step.graph may) kept.regions (kept.ports ∙ step.fits.ports) ended.next marks step.shown.given (shown ended.next ended.ends) (LeavesScope variables) state marks
     (λ next steps. all_state variables state next step.is steps.ends)
     (λ next steps. steps.none)
     (λ next steps. record { given = step.shown.given; by = shown next steps.ends }))
@@ -149,7 +149,7 @@ leave_plain variables flow point parts post state marks step =
     may = left_ready flow point (Leave variables) parts step.may step.graph variables variables refl refl
 
     kept : IsKept parts (left variables parts)
-    kept = left_kept variables parts step.may.fits.regions
+    kept = left_kept variables parts step.fits.regions
 
     ended : IsLeft variables state
     ended = all_left variables state

@@ -26,9 +26,13 @@ pub mod CopyPlain
 pub mod StartInitial
 pub mod StartStatics
 pub mod StartBlocks
+pub mod StartApart
 pub mod StartShown
 pub mod Plainly
 pub mod ExamplePlain
+pub mod LineWalks
+pub mod NoInputs
+pub mod ExampleWalks
 pub mod ExampleFlow
 pub mod TidiedOnly
 pub mod TidiedNumbers
@@ -40,3 +44,12 @@ pub mod RealRoom
 pub mod RealShown
 pub mod RealWarnings
 pub mod AnsweredExactly
+pub mod Weights
+pub mod WalksOnce
+pub mod PostSizes
+pub mod AccessSizes
+pub mod BlockSizes
+pub mod EdgeSizes
+pub mod StartSizes
+pub mod SmallGraphs
+pub mod AnsweredWholly

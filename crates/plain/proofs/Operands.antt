@@ -20,19 +20,19 @@ use Rattle.flow.specs.declared.flow_graph.Flow.{Flow}
 use Rattle.register_steps.specs.declared.line.Line.{Line}
 use Rattle.register_steps.specs.Lines.{nothing}
 use Rattle.register_steps.specs.Steps.{entry_held, on_held}
-use Rattle.transfer.specs.Fitting.{FitsAt}
+use Rattle.transfer.specs.OfRegions.{FitsOfRegions}
 use Rattle.transfer.proofs.Ready.{names_none}
 use Rattle.plain.specs.Marks.{Marks}
 use Rattle.plain.specs.Conditions.{IsKnown, HoldsNumber, is_plain}
 use Rattle.plain.specs.Shown.{is_sure, may_show, IsShownBy}
 
-module _ (flow : Flow) (point : ℕ) (parts : Parts) (fits : FitsAt flow point parts) (graph : IsGraph parts) (state : State) (given : Assignment) (meets : Meets (maps_of parts) state given) where
+module _ (flow : Flow) (point : ℕ) (parts : Parts) (fits : FitsOfRegions flow point parts) (graph : IsGraph parts) (state : State) (given : Assignment) (meets : Meets (maps_of parts) state given) where
   -- an address is that of a block
   pub address_leads : (key object : ℕ) (offset : ℤ) (target : Target) → value_at parts.values key ≡ Some (Address object offset target) → (number : ℕ) × (given.blocks object ≡ number ∷ []) × (given.word key ≡ To number offset)
   address_leads key object offset target is = by_life region.found.live refl
     where
       here : value_at parts.values key ≡ Some (Address object offset Region)
-      here = is ∙ ap (λ (t : Target). Some (Address object offset t)) (region_target object offset target (names_none flow point parts fits graph key (Address object offset target) is))
+      here = is ∙ ap (λ (t : Target). Some (Address object offset t)) (region_target object offset target (names_none parts fits.regions graph key (Address object offset target) is))
 
       region : IsRegionAt parts state given graph.well_formed meets key 0 object
       region = region_at parts state given graph.well_formed meets key 0 object offset here
@@ -80,7 +80,7 @@ module _ (parts : Parts) (state : State) (marks : Marks) (given : Assignment) (s
   sure_value register key value known held is = subst (λ (o : Option Value). option_map_or is_sure o false ≡ true) is (sure_at register key known held)
 
   -- and a constant, where that is a plain number
-  pub number_value : (flow : Flow) (point : ℕ) → FitsAt flow point parts → IsGraph parts → (register key : ℕ) (value : Value) → HoldsNumber state marks register → held_by parts.registers register ≡ Some key →
+  pub number_value : (flow : Flow) (point : ℕ) → FitsOfRegions flow point parts → IsGraph parts → (register key : ℕ) (value : Value) → HoldsNumber state marks register → held_by parts.registers register ≡ Some key →
       value_at parts.values key ≡ Some value → is_const value ≡ true
   number_value flow point fits graph register key value holds held is = by_value value is (sure_value register key value holds.known held is)
     where

@@ -186,7 +186,7 @@ module _ (flow : Flow) (point : ℕ) (into at size : ℕ) (pointer : Bool) (part
         may_read Any stands holds b is = absurd (false≢true holds)
         may_read (Address object offset kind) stands holds true is = refl
         may_read (Address object offset kind) stands holds false is =
-            let leads = address_leads flow point parts step.may.fits step.graph state step.shown.given step.shown.by.meets found.0 object offset kind stands in
+            let leads = address_leads flow point parts step.fits step.graph state step.shown.given step.shown.by.meets found.0 object offset kind stands in
             absurd (pointer_parts size leads.0 offset (block_bytes (Some met.block) (pos met.from) size) (some_scalar size scalar)
             (value_of_holds met.block.bytes step.shown.given.word met.object.edges met.from size found.0 found.1 met.node.edges ∙ ap (λ (w : Word). take size (word_bytes w)) leads.2) (numbers is))
 

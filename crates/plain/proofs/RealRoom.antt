@@ -14,6 +14,7 @@ use Rattle.graph.specs.Nodes.{is_region}
 use Rattle.graph.specs.WellFormed.{nodes, nodes_of}
 use Rattle.graph.proofs.Tests.{and_left, and_right, and_both}
 use Rattle.block_steps.specs.Blocks.{has_room}
+use Rattle.heap_steps.specs.Regions.{AreRegions}
 use Rattle.flow.specs.declared.flow_graph.Flow.{Flow}
 use Rattle.flow.specs.declared.flow_graph.Standing.{Standing}
 use Rattle.flow.specs.declared.flow_graph.Variable.{Variable}
@@ -175,10 +176,10 @@ region_nodes (first ∷ rest) all =
     let later = region_nodes rest (and_right (is_region first.object.shape) (list_all (λ (entry : KeyedObject). is_region entry.object.shape) rest) all) in
     omega arith
 
-pub room_there : (flow : Flow) (point : ℕ) (instr : Instr) (parts : Parts) → length flow.variables < 33554432 → IsPlaced flow point parts → has_scope flow (stands_at flow point) instr ≡ true →
+pub room_there : (flow : Flow) (point : ℕ) (instr : Instr) (parts : Parts) → length flow.variables < 33554432 → IsPlaced flow point parts → AreRegions parts.objects → has_scope flow (stands_at flow point) instr ≡ true →
     has_room parts (makes instr) ≡ true
-room_there flow point instr parts few placed scope =
+room_there flow point instr parts few placed regions scope =
     let less : length parts.objects < 1000000000 = ltb-true (length parts.objects) 1000000000 placed.small in
-    let count : nodes parts ≡ length parts.objects = region_nodes parts.objects placed.fits.regions in
+    let count : nodes parts ≡ length parts.objects = region_nodes parts.objects regions in
     let made : makes instr < 33554432 = makes_few flow (stands_at flow point) instr few scope in
     lt-ltb (nodes parts + makes instr) (2 ^ 30) (omega arith)

@@ -13,8 +13,8 @@ use Rattle.plain.proofs.RealShown.{driven_plain}
 
 pub warnings_are_errors : AreWarningsErrors
 warnings_are_errors flow limits warnings trail complete next valid offsets few plain verdict =
-    let is : IsWarned flow limits.budget warnings trail complete next = verdict in
-    let kept : IsTrailPlain driven alike_runs flow trail = driven_plain flow trail valid offsets is.calls few plain is.honest in
+    let is : IsWarned flow limits warnings trail complete next = verdict in
+    let kept : IsTrailPlain driven alike_runs flow trail = driven_plain flow limits.int_limit trail valid offsets is.calls few plain is.honest in
     let errors : (warning : Warning) → IsAmong warnings warning → warning.error ≡ true =
     λ warning among. (let one : IsWarning flow trail warning = is.each.each warning among in (is.errors.each warning among).1 (kept.real warning.entry one.entry one.there)) in
     let tame : AreTame driven flow trail = λ at entry number edge post there is_kept stands leaves is_post four. absurd (none-some 4 (sym (kept.loss at number entry edge post there stands leaves is_post) ∙ four)) in

@@ -82,7 +82,7 @@ shift_by_plain into at by scale flow point parts post state marks step =
     (on_entry parts at (IsSureLine parts false) (λ entry. on_held (entry_held parts by) (λ number. shifted_by entry.value number.value scale)) (nothing_sure parts)
     (λ entry found. on_entry parts by (IsSureLine parts false) (λ number. shifted_by entry.value number.value scale) (nothing_sure parts)
     (λ number found'. shifted_by_sure parts entry.value number.value scale (sure_value parts state marks step.shown.given step.shown.by at entry.key entry.value step.plain.0 found.held found.is)
-    (number_value parts state marks step.shown.given step.shown.by flow point step.may.fits step.graph by number.key number.value step.plain.1 found'.held found'.is))))
+    (number_value parts state marks step.shown.given step.shown.by flow point step.fits step.graph by number.key number.value step.plain.1 found'.held found'.is))))
     step.posted
 
 -- Operations and conversions.
@@ -107,8 +107,8 @@ compute_plain into op one other size signed flow point parts post state marks st
     (on_entry parts one (IsSureLine parts false) (λ entry. on_held (entry_held parts other) (λ second. computed_line op size signed entry.value second.value)) (nothing_sure parts)
     (λ entry found. on_entry parts other (IsSureLine parts false) (λ second. computed_line op size signed entry.value second.value) (nothing_sure parts)
     (λ second found'. computed_sure parts op size signed entry.value second.value
-    (number_value parts state marks step.shown.given step.shown.by flow point step.may.fits step.graph one entry.key entry.value step.plain.0 found.held found.is)
-    (number_value parts state marks step.shown.given step.shown.by flow point step.may.fits step.graph other second.key second.value step.plain.1 found'.held found'.is))))
+    (number_value parts state marks step.shown.given step.shown.by flow point step.fits step.graph one entry.key entry.value step.plain.0 found.held found.is)
+    (number_value parts state marks step.shown.given step.shown.by flow point step.fits step.graph other second.key second.value step.plain.1 found'.held found'.is))))
     step.posted
 
 converted_sure : (parts : Parts) (key : ℕ) (value : Value) (size : ℕ) (signed : Bool) → passes_at parts is_sure key ≡ true → is_const value ≡ true → IsSureLine parts false (converted_line key value size signed)
@@ -128,5 +128,5 @@ convert_plain into from size signed flow point parts post state marks step =
     (convert_right parts step.graph from size signed step.may.sizes)
     (on_entry parts from (IsSureLine parts false) (λ entry. converted_line entry.key entry.value size signed) (nothing_sure parts)
     (λ entry found. converted_sure parts entry.key entry.value size signed (sure_at parts state marks step.shown.given step.shown.by from entry.key step.plain.known found.held)
-    (number_value parts state marks step.shown.given step.shown.by flow point step.may.fits step.graph from entry.key entry.value step.plain found.held found.is)))
+    (number_value parts state marks step.shown.given step.shown.by flow point step.fits step.graph from entry.key entry.value step.plain found.held found.is)))
     step.posted)

@@ -39,6 +39,13 @@ put_all p new (first ∷ rest) has all = by_test (nat_lt new.variable first.vari
     by_test true later = and_both (p new) (p first && list_all p rest) has all
     by_test false later = and_both (p first) (list_all p (put_owned new rest)) (and_left (p first) (list_all p rest) all) later
 
+pub below_next : (number : ℕ) (state : State) (block : Block) → HasBelow state → are_below (length (placed state.memory block)) (put_owned (record { variable = number; block = length state.memory }) state.statics) ≡ true
+below_next number state block below =
+    let long : length (placed state.memory block) ≡ length state.memory + 1 = length-append state.memory (block ∷ []) in
+    put_all (λ (owned : Owned). nat_lt owned.block (length (placed state.memory block))) (record { variable = number; block = length state.memory }) state.statics (lt-ltb _ _ (omega arith))
+    (list_all-implies (λ (owned : Owned). nat_lt owned.block (length state.memory)) (λ (owned : Owned). nat_lt owned.block (length (placed state.memory block)))
+    (λ owned is. lt-ltb _ _ (let less = ltb-true owned.block (length state.memory) is in let l = long in omega arith)) state.statics below)
+
 pub statics_below : (number : ℕ) (variables : List Variable) (state : State) (choices : List Choice) → HasBelow state → Leaves (with_statics number variables state choices) HasBelow
 statics_below number [] state choices below = below
 statics_below number (variable ∷ rest) state choices below = by_kind variable.fixed (statics_below (number + 1) rest)
@@ -52,11 +59,7 @@ statics_below number (variable ∷ rest) state choices below = by_kind variable.
         (λ after block more. with_statics (number + 1) rest
         (record after { statics = put_owned (record { variable = number; block = block }) after.statics }) more) HasBelow
         (λ block choices.
-        let long : length (placed state.memory block) ≡ length state.memory + 1 = length-append state.memory (block ∷ []) in
-        more (record state { memory = placed state.memory block; statics = put_owned (record { variable = number; block = length state.memory }) state.statics }) choices
-        (put_all (λ (owned : Owned). nat_lt owned.block (length (placed state.memory block))) (record { variable = number; block = length state.memory }) state.statics (lt-ltb _ _ (omega arith))
-        (list_all-implies (λ (owned : Owned). nat_lt owned.block (length state.memory)) (λ (owned : Owned). nat_lt owned.block (length (placed state.memory block)))
-        (λ owned is. lt-ltb _ _ (let less = ltb-true owned.block (length state.memory) is in let l = long in omega arith)) state.statics below)))
+        more (record state { memory = placed state.memory block; statics = put_owned (record { variable = number; block = length state.memory }) state.statics }) choices (below_next number state block below))
     by_kind false more = more state choices below
 
 -- variables that are made change no static one

@@ -32,7 +32,8 @@ use Rattle.plain.specs.Marks.{Unwritten, Zeroed, Marks}
 use Rattle.plain.specs.PlainRuns.{with_initial_marks, start_marks}
 use Rattle.plain.specs.Shown.{IsShown}
 use Rattle.plain.specs.StartGraph.{DoStartsShow}
-use Rattle.plain.specs.StartMarks.{static_marks, CutNoInitial}
+use Rattle.plain.specs.StartMarks.{static_marks}
+use Rattle.plain.proofs.StartApart.{CutNoInitial, HasOwn, statics_own, nothing_own, cut_none_initial}
 use Rattle.plain.proofs.EnterPlain.{all_shown}
 use Rattle.plain.proofs.FillPlain.{shown_as}
 use Rattle.plain.proofs.NewBlocks.{with_block_marks}
@@ -82,7 +83,7 @@ module _ (flow : Flow) (valid : IsFlow flow) (graph : IsGraph (start_graph flow)
   statics = with_statics 0 flow.variables no_parts
 
   abbrev Shows : State → Type 0
-  Shows next = CutNoInitial next.statics flow.initial (static_marks next.statics) → IsShown (start_graph flow) (seen [] next) (start_marks flow next)
+  Shows next = IsShown (start_graph flow) (seen [] next) (start_marks flow next)
 
   few : length statics.objects < 2 ^ 30
   few = few_statics flow valid graph
@@ -99,15 +100,15 @@ module _ (flow : Flow) (valid : IsFlow flow) (graph : IsGraph (start_graph flow)
       (there_enter flow [] (λ register. 0) state.point nowhere state choices parameters
       (subst (AreNew parameters) (sym none) (are_new parameters (and_left (flows.are_distinct parameters) (list_all (is_parameter flow) parameters) (parameters_of_main flow valid)))))
 
-  module _ (state : State) (made : IsMade statics state) (below : HasBelow state) where
+  module _ (state : State) (made : IsMade statics state) (below : HasBelow state) (own : HasOwn state) where
     abbrev begun : State
     begun = with_memory (runs.with_initials state.statics flow.initial state.memory) state
 
     abbrev marks : Marks
     marks = record { of = with_initial_marks state.statics flow.initial (static_marks state.statics); input = λ register. false }
 
-    begun_shown : CutNoInitial state.statics flow.initial (static_marks state.statics) → IsBegunShown (static_graph flow) (seen [] begun) marks
-    begun_shown whole =
+    begun_shown : IsBegunShown (static_graph flow) (seen [] begun) marks
+    begun_shown =
         initials_shown flow state.statics flow.initial statics (seen [] state) (record { of = static_marks state.statics; input = λ register. false }) valid.initials named (shown state made.variables)
         (record {
           is = made.is;
@@ -116,7 +117,7 @@ module _ (flow : Flow) (valid : IsFlow flow) (graph : IsGraph (start_graph flow)
             by = statics_shown flow statics state named (statics_zeros flow 0 flow.variables no_parts valid (rest_of flow) few (nothing_named flow) nothing_zeros) made;
           };
         })
-        whole
+        (cut_none_initial state.statics flow.initial own valid.initials_apart)
 
     same_marks : (block place : ℕ) → marks.of block place ≡ (if nat_lt block (length begun.memory) then marks.of block place else Unwritten)
     same_marks block place = by_test (nat_lt block (length begun.memory)) refl
@@ -129,9 +130,8 @@ module _ (flow : Flow) (valid : IsFlow flow) (graph : IsGraph (start_graph flow)
 
     entered_shows : (next : State) → Enters parameters sizes (seen [] begun) (seen [] next) → next.statics ≡ state.statics → Shows next
     entered_shows next enters same =
-        subst (λ (owned : List Owned). CutNoInitial owned flow.initial (static_marks owned) → IsShown (start_graph flow) (seen [] next) (record { of = with_initial_marks owned flow.initial (static_marks owned); input = λ register. false })) (sym same)
-        (λ whole.
-        let holds = begun_shown whole in
+        subst (λ (owned : List Owned). IsShown (start_graph flow) (seen [] next) (record { of = with_initial_marks owned flow.initial (static_marks owned); input = λ register. false })) (sym same)
+        (let holds = begun_shown in
         let found = all_shown parameters sizes (static_graph flow) (static_named flow valid graph).graph (static_named flow valid graph).regions (parameters_may_enter flow valid (static_graph flow) (static_named flow valid graph)) (room flow valid graph)
         (seen [] begun) (seen [] next) holds.is marks holds.shown.given holds.shown.by enters in
         record { given = found.given; by = shown_as (start_graph flow) (seen [] next) (with_block_marks (length begun.memory) Unwritten marks) marks found.given same_marks (λ register. refl) found.by })
@@ -140,17 +140,19 @@ module _ (flow : Flow) (valid : IsFlow flow) (graph : IsGraph (start_graph flow)
   start_shows choices =
       Leaves-then (runs.with_statics 0 flow.variables (blank (entry_of flow flow.main)) choices)
       (λ state more. entered flow (parameters_of flow flow.main) (with_memory (runs.with_initials state.statics flow.initial state.memory) state) more)
-      (λ state. IsMade statics state × HasBelow state) Shows
-      (leaves_both (runs.with_statics 0 flow.variables (blank (entry_of flow flow.main)) choices) (IsMade statics) HasBelow
+      (λ state. IsMade statics state × (HasBelow state × HasOwn state)) Shows
+      (leaves_both (runs.with_statics 0 flow.variables (blank (entry_of flow flow.main)) choices) (IsMade statics) (λ state. HasBelow state × HasOwn state)
       (statics_sound flow 0 flow.variables no_parts (blank (entry_of flow flow.main)) choices valid (rest_of flow) few (nothing_named flow) (nothing_made (entry_of flow flow.main)))
-      (statics_below 0 flow.variables (blank (entry_of flow flow.main)) choices refl))
-      (λ state more (made, below).
-      Leaves-weaker (entered flow parameters (begun state made below) more) (λ next. Enters parameters sizes (seen [] (begun state made below)) (seen [] next) × (next.statics ≡ state.statics)) Shows
-      (λ next (enters, same). entered_shows state made below next enters same)
-      (leaves_both (entered flow parameters (begun state made below) more) (λ next. Enters parameters sizes (seen [] (begun state made below)) (seen [] next)) (λ next. next.statics ≡ state.statics)
-      (enters (begun state made below) more made.variables) (entered_statics flow parameters (begun state made below) more)))
+      (leaves_both (runs.with_statics 0 flow.variables (blank (entry_of flow flow.main)) choices) HasBelow HasOwn
+      (statics_below 0 flow.variables (blank (entry_of flow flow.main)) choices refl)
+      (statics_own 0 flow.variables (blank (entry_of flow flow.main)) choices refl nothing_own)))
+      (λ state more (made, (below, own)).
+      Leaves-weaker (entered flow parameters (begun state made below own) more) (λ next. Enters parameters sizes (seen [] (begun state made below own)) (seen [] next) × (next.statics ≡ state.statics)) Shows
+      (λ next (enters, same). entered_shows state made below own next enters same)
+      (leaves_both (entered flow parameters (begun state made below own) more) (λ next. Enters parameters sizes (seen [] (begun state made below own)) (seen [] next)) (λ next. next.statics ≡ state.statics)
+      (enters (begun state made below own) more made.variables) (entered_statics flow parameters (begun state made below own) more)))
 
 pub starts_shown : DoStartsShow
-starts_shown flow parts state choices valid is goes whole =
+starts_shown flow parts state choices valid is goes =
     subst (λ (p : Parts). IsShown p (seen [] state) (start_marks flow state)) (sym is.is)
-    (left_state (runs.start flow choices) (Shows flow valid (subst IsGraph is.is is.graph)) state [] (start_shows flow valid (subst IsGraph is.is is.graph) choices) goes whole)
+    (left_state (runs.start flow choices) (Shows flow valid (subst IsGraph is.is is.graph)) state [] (start_shows flow valid (subst IsGraph is.is is.graph) choices) goes)

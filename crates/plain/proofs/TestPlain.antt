@@ -27,7 +27,7 @@ use Rattle.reinterpret.specs.declared.comparison.Comparison.{Comparison}
 use Rattle.reinterpret.specs.declared.comparison.Comparison.TheVariants as known
 use Rattle.reinterpret.proofs.EqualSound.{held, are, post_is, open_is, tells}
 use Rattle.reinterpret.proofs.Told.{Tells}
-use Rattle.transfer.specs.Fitting.{FitsAt}
+use Rattle.transfer.specs.OfRegions.{FitsOfRegions}
 use Rattle.transfer.proofs.Asked.{same_ready, different_ready}
 use Rattle.plain.specs.Marks.{Marks}
 use Rattle.plain.specs.Conditions.{IsPlainTest}
@@ -40,7 +40,7 @@ use Rattle.plain.proofs.Reaches.{IsPlainPosted, plain_post, none_follows}
 use Rattle.plain.proofs.Registers.{emptied_marks, emptied_shown}
 use Rattle.plain.proofs.WritePlain.{register_is}
 
-module _ (flow : Flow) (point : ℕ) (parts : Parts) (fits : FitsAt flow point parts) (graph : IsGraph parts) (left right : ℕ) (may : may_compare parts left right ≡ true) (state : State) (is : IsState state) (marks : Marks) (given : Assignment)
+module _ (flow : Flow) (point : ℕ) (parts : Parts) (fits : FitsOfRegions flow point parts) (graph : IsGraph parts) (left right : ℕ) (may : may_compare parts left right ≡ true) (state : State) (is : IsState state) (marks : Marks) (given : Assignment)
     (by : IsShownBy parts state marks given) where
   abbrev gone : List ℕ
   gone = left ∷ right ∷ []
@@ -116,9 +116,9 @@ module _ (flow : Flow) (point : ℕ) (parts : Parts) (fits : FitsAt flow point p
 pub same_plain : (one other : ℕ) → GoesPlainly (IfSame one other)
 same_plain one other flow point parts post state marks step =
     plain_post (Equals one other true) state (emptied_marks (one ∷ other ∷ []) marks) (equal_post parts one other true) post step.posted
-    (test_posted flow point parts step.may.fits step.graph one other (same_ready flow point (IfSame one other) parts step.may step.graph one other refl) state step.is marks step.shown.given step.shown.by true step.plain)
+    (test_posted flow point parts step.fits step.graph one other (same_ready flow point (IfSame one other) parts step.may step.graph one other refl) state step.is marks step.shown.given step.shown.by true step.plain)
 
 pub different_plain : (one other : ℕ) → GoesPlainly (IfDifferent one other)
 different_plain one other flow point parts post state marks step =
     plain_post (Equals one other false) state (emptied_marks (one ∷ other ∷ []) marks) (equal_post parts one other false) post step.posted
-    (test_posted flow point parts step.may.fits step.graph one other (different_ready flow point (IfDifferent one other) parts step.may step.graph one other refl) state step.is marks step.shown.given step.shown.by false step.plain)
+    (test_posted flow point parts step.fits step.graph one other (different_ready flow point (IfDifferent one other) parts step.may step.graph one other refl) state step.is marks step.shown.given step.shown.by false step.plain)

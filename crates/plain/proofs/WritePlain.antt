@@ -36,7 +36,7 @@ use Rattle.flow.specs.declared.instruction.Instr.TheVariants.{Write}
 use Rattle.reinterpret.specs.States.{Writes}
 use Rattle.reinterpret.specs.Writing.{edge_at, value_written, write_post}
 use Rattle.reinterpret.proofs.WriteSound.{post_held, written_meets}
-use Rattle.transfer.specs.Fitting.{FitsAt}
+use Rattle.transfer.specs.OfRegions.{FitsOfRegions}
 use Rattle.transfer.proofs.Asked.{write_ready, written_ready}
 use Rattle.plain.specs.Marks.{Marks, Mark, with_marks, marked_at, is_zero_in, written_mark, on_words, bytes_after, inputs_emptied, marks_after}
 use Rattle.plain.specs.Conditions.{CutNone}
@@ -49,7 +49,7 @@ use Rattle.plain.proofs.Reaches.{IsPlainPosted, plain_post, none_follows, Reache
 use Rattle.plain.proofs.WrittenMarks.{written_within, written_beside, written_tight, written_sure}
 
 -- the word of a constant or an address has bytes that are 0 alone just where the value is the constant 0
-pub zero_word : (flow : Flow) (point : ℕ) (parts : Parts) → FitsAt flow point parts → IsGraph parts → (state : State) (given : Assignment) → Meets (maps_of parts) state given → (key size : ℕ) (value : Value) →
+pub zero_word : (flow : Flow) (point : ℕ) (parts : Parts) → FitsOfRegions flow point parts → IsGraph parts → (state : State) (given : Assignment) → Meets (maps_of parts) state given → (key size : ℕ) (value : Value) →
     value_at parts.values key ≡ Some value → is_sure value ≡ true → is_sized value ≡ true → value_size value ≡ size → is_zero_in size (given.word key) ≡ is_zero value
 zero_word flow point parts fits graph state given meets key size (Const number was) is sure sized same =
     ap (is_zero_in size) (meets.values key (Const number was) is)
@@ -151,7 +151,7 @@ write_plain at from size flow point parts post state marks step =
             (step.plain.whole met.number met.from led (ap (λ (w : Word). access_fault state.memory w size) (sym met.word) ∙ free))
 
         zero_is : is_zero_in size (given.word source.key) ≡ is_zero source.value
-        zero_is = zero_word flow point parts step.may.fits step.graph state given meets source.key size source.value source.is source_sure source_sized (eqb-true _ _ source.passes)
+        zero_is = zero_word flow point parts step.fits step.graph state given meets source.key size source.value source.is source_sure source_sized (eqb-true _ _ source.passes)
 
         marks_are : bytes_after (Write at from size) state marks.of ≡ with_marks met.number met.from size (written_mark (is_zero source.value) size met.from) marks.of
         marks_are =

@@ -14,7 +14,7 @@ use Rattle.flow.specs.Runs.{start}
 use Rattle.flow.specs.Valid.{IsFlow}
 use Rattle.edge_steps.specs.Seen.{seen}
 use Rattle.trail.specs.declared.trail.Entry.{Entry}
-use Rattle.trail.specs.Analysis.{Analysis, Tests, tested, near_by, Fits, IsStart, IsPost, IsExact, Nearness, IsNear}
+use Rattle.trail.specs.Analysis.{Analysis, Widening, Tests, tested, widened, near_by, Fits, IsStart, IsPost, IsExact, Nearness, IsNear, IsSharp}
 use Rattle.trail.specs.Seen.{IsOf, HasNoCalls}
 use Rattle.trail.specs.Theorems.{HaveOffsets}
 use Rattle.trail.specs.Trail.{At, AreHonest, IsReal}
@@ -49,11 +49,11 @@ pub record StandsForSome (graph : Parts) : Type 0 where
   pub is : graphs.IsState state
   pub stands : StandsFor graph state
 
--- the start shows each state in which runs begin, where a graph that fits shows a state, and what is asked of the instruction is met, its post is plain, and each graph that fits stands for some state
-pub record ShowsPlainly (analysis : Analysis) (flow : Flow) : Type 0 where
+-- the start shows each state in which runs begin, where a sharp graph that fits shows a state, and what is asked of the instruction is met, its post is plain, and each graph that fits stands for some state
+pub record ShowsPlainly (analysis : Analysis) (nearness : Nearness) (flow : Flow) : Type 0 where
   pub start : (graph : Parts) (state : State) (choices : List Choice) → IsStart analysis flow graph → start flow choices ≡ Went state [] → IsShown graph (seen [] state) (start_marks flow state)
   pub steps : (number : ℕ) (edge : FlowEdge) (graph : Parts) (post : Post) (state : State) (marks : Marks) →
-      slice_get flow.edges number ≡ Some edge → Fits analysis flow edge.from graph → IsPost analysis flow number graph post → IsOf flow state → edge.from ≡ state.point →
+      slice_get flow.edges number ≡ Some edge → Fits analysis flow edge.from graph → IsSharp nearness graph → IsPost analysis flow number graph post → IsOf flow state → edge.from ≡ state.point →
       IsShown graph (seen [] state) marks → IsPlainAt edge.instr (seen [] state) marks → IsPlainAlong flow edge state marks post
   pub states : (point : ℕ) (graph : Parts) → Fits analysis flow point graph → StandsForSome graph
 
@@ -67,9 +67,9 @@ pub record IsTrailPlain (analysis : Analysis) (nearness : Nearness) (flow : Flow
       IsPost analysis flow number entry.graph post → length post.graphs ≤ 1
 
 -- so it is of an honest trail of a plain flow graph
-abbrev pub KeepsPlain : Analysis → Nearness → Type 0
-KeepsPlain analysis nearness = (flow : Flow) (trail : List Entry) → IsFlow flow → HaveOffsets flow → HasNoCalls flow → IsPlain flow → IsExact analysis nearness flow → ShowsPlainly analysis flow →
-    AreHonest analysis flow trail → IsTrailPlain analysis nearness flow trail
+abbrev pub KeepsPlain : Analysis → Widening → Nearness → Type 0
+KeepsPlain analysis widening nearness = (flow : Flow) (trail : List Entry) → IsFlow flow → HaveOffsets flow → HasNoCalls flow → IsPlain flow → IsExact analysis nearness flow → ShowsPlainly analysis nearness flow →
+    AreHonest analysis widening flow trail → IsTrailPlain analysis nearness flow trail
 
 abbrev pub AreTrailsPlain : Type 0
-AreTrailsPlain = (tests : Tests) → KeepsPlain (tested tests) (near_by tests)
+AreTrailsPlain = (tests : Tests) → KeepsPlain (tested tests) (widened tests) (near_by tests)

@@ -1,5 +1,5 @@
 -- A plain flow graph, that of `int main(void) { int x; x = 5; return x; }`.
-use Rattle.std.specs.Prelude.{ℕ, ◌<◌, false, List, [], ◌∷◌, Some, length}
+use Rattle.std.specs.Prelude.{ℕ, false, List, [], ◌∷◌, Some}
 use Rattle.cbase.specs.declared.abi.Abi.TheVariants.{Lp64}
 use Rattle.flow.specs.declared.flow_graph.Flow.{Flow}
 use Rattle.flow.specs.declared.flow_graph.FlowEdge.{FlowEdge}
@@ -10,7 +10,9 @@ use Rattle.flow.specs.declared.instruction.Instr.TheVariants.{Number, Address, R
 use Rattle.flow.specs.Valid.{IsFlow}
 use Rattle.trail.specs.Seen.{HasNoCalls}
 use Rattle.trail.specs.Theorems.{HaveOffsets}
+use Rattle.plain.specs.Followed.{HasFewWalks}
 use Rattle.plain.specs.PlainRuns.{IsPlain}
+use Rattle.plain.specs.Sizes.{IsSmall}
 
 abbrev pub edge : ℕ → ℕ → Instr → FlowEdge
 edge from to instr = record { from = from; to = to; instr = instr; place = record { file = 0; line = 1; column = 1; at = 0 } }
@@ -68,5 +70,6 @@ pub record IsExamplePlain : Type 0 where
   pub valid : IsFlow example
   pub offsets : HaveOffsets example
   pub calls : HasNoCalls example
-  pub few : length example.variables < 33554432
+  pub small : IsSmall example
+  pub walks : HasFewWalks example 9
   pub plain : IsPlain example

@@ -13,14 +13,16 @@ use Rattle.edge_steps.specs.EdgeSteps.{EdgeSteps}
 use Rattle.edge_steps.specs.Laws.{sizes_at}
 use Rattle.transfer.specs.Along.{is_full}
 use Rattle.transfer.specs.Fitting.{MayFollow}
+use Rattle.transfer.specs.OfRegions.{FitsOfRegions}
 use Rattle.transfer.specs.Posts.{edge_post}
 use Rattle.plain.specs.Marks.{Marks, marks_after}
 use Rattle.plain.specs.Conditions.{IsPlainAt}
 use Rattle.plain.specs.Shown.{IsShown, IsPlainPost}
 
--- the graph shows the state with its marks, and what the instruction asks for is met
+-- a graph of regions shows the state with its marks, and what the instruction asks for is met
 pub record IsPlainStep (flow : Flow) (point : ℕ) (instr : Instr) (parts : Parts) (post : Post) (state : State) (marks : Marks) : Type 0 where
   pub graph : IsGraph parts
+  pub fits : FitsOfRegions flow point parts
   pub may : MayFollow flow point instr parts
   pub posted : IsPost (edge_post flow instr parts) post
   pub is : IsState state

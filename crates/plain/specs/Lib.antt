@@ -9,4 +9,6 @@ pub mod Chain
 pub mod Real
 pub mod RealErrors
 pub mod Answers
+pub mod Sizes
+pub mod Followed
 pub mod Example

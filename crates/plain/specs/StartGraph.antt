@@ -1,4 +1,4 @@
--- The graph in which runs begin shows each state in which one does, where no scalar that stands in a static variable at the start overlaps one before it in part.
+-- The graph in which runs begin shows each state in which one does.
 use Rattle.std.specs.Prelude.{◌≡◌, List, []}
 use Rattle.choices.specs.declared.choice.Choice.{Choice}
 use Rattle.graph.specs.declared.parts.Parts.{Parts}
@@ -10,8 +10,6 @@ use Rattle.edge_steps.specs.Seen.{seen}
 use Rattle.transfer.specs.Start.{IsStartGraph}
 use Rattle.plain.specs.PlainRuns.{start_marks}
 use Rattle.plain.specs.Shown.{IsShown}
-use Rattle.plain.specs.StartMarks.{static_marks, CutNoInitial}
 
 abbrev pub DoStartsShow : Type 0
-DoStartsShow = (flow : Flow) (parts : Parts) (state : State) (choices : List Choice) → IsFlow flow → IsStartGraph flow parts → start flow choices ≡ Went state [] → CutNoInitial state.statics flow.initial (static_marks state.statics) →
-    IsShown parts (seen [] state) (start_marks flow state)
+DoStartsShow = (flow : Flow) (parts : Parts) (state : State) (choices : List Choice) → IsFlow flow → IsStartGraph flow parts → start flow choices ≡ Went state [] → IsShown parts (seen [] state) (start_marks flow state)

@@ -4,6 +4,8 @@ ghost use Rattle.plain.specs.Chain.{AreTrailsPlain};
 ghost use Rattle.plain.specs.Real.{AreDrivenTrailsPlain};
 ghost use Rattle.plain.specs.RealErrors.{AreWarningsErrors};
 ghost use Rattle.plain.specs.Answers.{AreAnsweredExactly};
+ghost use Rattle.plain.specs.Followed.{AreAnsweredWholly};
+ghost use Rattle.plain.specs.Sizes.{AreGraphsSmall};
 ghost use Rattle.plain.specs.StartGraph.{DoStartsShow};
 ghost use Rattle.plain.specs.Laws.{AreRegistersPlain, AreAccessesPlain, AreTestsPlain, AreEndsPlain, AreBlocksPlain};
 ghost use Rattle.graph.specs.declared.parts.Parts.{Parts};
@@ -50,7 +52,7 @@ pub fn an_example_is_plain()
     ensures { IsExamplePlain }
 {}
 
-/// The start graph shows each state in which a run begins, with the marks that runs begin with, where no scalar that stands in a static variable at the start overlaps one before it in part.
+/// The start graph shows each state in which a run begins, with the marks that runs begin with.
 #[tactic(auto, using(crate::proofs::StartShown::starts_shown))]
 pub fn starts_are_shown()
     ensures { DoStartsShow }
@@ -86,4 +88,15 @@ pub fn warnings_of_plain_flow_graphs_are_errors()
 #[tactic(auto, using(crate::proofs::AnsweredExactly::answered_exactly))]
 pub fn plain_flow_graphs_are_answered_exactly()
     ensures { AreAnsweredExactly }
+{}
+
+/// Where there is a number of walks from main's entry, fewer than 2^25 edges, and fewer than 2^25 variables and objects that edges make together, no graph of a trail that the analysis makes is large.
+pub fn graphs_of_few_walks_are_small()
+    ensures { AreGraphsSmall }
+{}
+
+/// So a verdict on a plain flow graph without calls, and of so few edges, variables and objects, is exact and all was followed, where no more walks lead on from main's entry than graphs may be kept.
+#[tactic(auto, using(crate::proofs::AnsweredWholly::answered_wholly))]
+pub fn plain_flow_graphs_of_few_walks_are_answered_wholly()
+    ensures { AreAnsweredWholly }
 {}
