@@ -2,12 +2,14 @@
 """Says what the analysis takes: how many states a second, and whether time and memory are in proportion to how many states are kept.
 
 Usage, at the project's root: bench/analysis.py [--unproved] [--most N] [--seconds S] [--runs N] [PART ..]
-The parts are programs and growth; without words it takes both. It takes the proved program; with --unproved one that is built from the same sources without proofs, with checks of memory and arithmetic, which take
+The parts are programs, lists and growth; without words it takes all. It takes the proved program; with --unproved one that is built from the same sources without proofs, with checks of memory and arithmetic, which take
 most of its time. Processor times are the least of some runs. How many states are kept is seen from outside: it is the least budget with which the answer does not say that the budget is spent, or the budget itself
 where it always does.
 
 programs   five programs, each within a budget of 1,000 states (--budget): how many states are kept, the time of the whole run, states a second, the peak of memory, and the time as a ratio to that of each of `gcc -fanalyzer`,
            `clang --analyze` and `cppcheck` that there is, on the same file in the same run.
+lists      ten loops over lists and the same with one line broken (bench/lists): the same of each within a budget of 10,000 states, and whether the answer is the wanted one (NAME.expect). Without a fault it is to be
+           `safe`, in under a second.
 growth     programs whose states have no end, or whose text grows, with budgets of 1,000 to 100,000 states (--most): time and memory for each state as ratios to those of the smallest budget, where what a run with a budget
            of one state takes (reading, typing, lowering) is taken off first. A program is not tried further behind a run that takes over 60 seconds (--seconds).
 """
@@ -25,6 +27,8 @@ from front import run, sources, unproved  # noqa: E402
 SIZES = (1_000, 3_000, 10_000, 30_000, 100_000)
 TOOLS = {"gcc -fanalyzer": ["gcc", "-fanalyzer", "-w", "-c", "-o", "/dev/null"], "clang --analyze": ["clang", "--analyze", "-w", "-o", "/dev/null"], "cppcheck": ["cppcheck", "-q"]}
 SPENT = b"budget of"
+LISTS = Path(__file__).resolve().parent / "lists"
+LIST_BUDGET = 10_000
 NODE = "struct node { struct node *next; int n; };\n"
 
 SLOT = """struct slot { char *data; };
@@ -115,15 +119,37 @@ def kept_states(program, folder, most):
     return high
 
 
+def measured(program, file, budget, runs):
+    """What is printed of a file, and a line of how many states are kept, of the time, and of the times of other tools."""
+    with tempfile.TemporaryDirectory() as folder:
+        shutil.copy(file, Path(folder, "t.c"))
+        kept = kept_states(program, folder, budget)
+        _, seconds, peak = analysed(program, folder, budget, runs)
+        said, _, _ = taken([program, "--budget", str(budget), "t.c"], folder, 1)
+        beside = [f"{seconds / taken([*words, 't.c'], folder, runs)[1]:.2f} times {tool}" for tool, words in TOOLS.items() if shutil.which(words[0])]
+    return said, f"{kept:,} states, {1000 * seconds:.0f} ms, {kept / seconds:,.0f} states a second, {peak / 1024:.0f} MB; {', '.join(beside)}"
+
+
 def programs(program, given):
     """Prints states a second, and times against those of other tools."""
     for name, text in PROGRAMS.items():
-        with tempfile.TemporaryDirectory() as folder:
-            Path(folder, "t.c").write_text(text)
-            kept = kept_states(program, folder, given.budget)
-            _, seconds, peak = analysed(program, folder, given.budget, given.runs)
-            beside = [f"{seconds / taken([*words, 't.c'], folder, given.runs)[1]:.2f} times {tool}" for tool, words in TOOLS.items() if shutil.which(words[0])]
-        print(f"{name}: {kept:,} states, {1000 * seconds:.0f} ms, {kept / seconds:,.0f} states a second, {peak / 1024:.0f} MB; {', '.join(beside)}", flush=True)
+        with tempfile.NamedTemporaryFile("w", suffix=".c") as file:
+            file.write(text)
+            file.flush()
+            print(f"{name}: {measured(program, file.name, given.budget, given.runs)[1]}", flush=True)
+
+
+def lists(program, given):
+    """Prints the same of loops over lists, and where the answer is not the wanted one."""
+    files = [*sorted(LISTS.glob("*.c")), *sorted((LISTS / "faulty").glob("*.c"))]
+    wrong = 0
+    for file in files:
+        said, line = measured(program, file, LIST_BUDGET, given.runs)
+        wanted = file.with_suffix(".expect").read_bytes().rsplit(b"status", 1)[0]
+        said = said.replace(b"t.c:", file.name.encode() + b":")
+        wrong += said != wanted
+        print(f"{'faulty ' if file.parent != LISTS else ''}{file.stem}: {line}" + ("" if said == wanted else f"; answered {said.decode()!r}"), flush=True)
+    print(f"lists: {len(files) - wrong} of {len(files)} answered as wanted", flush=True)
 
 
 def growth(program, given):
@@ -146,7 +172,7 @@ def growth(program, given):
                 break
 
 
-PARTS = {"programs": programs, "growth": growth}
+PARTS = {"programs": programs, "lists": lists, "growth": growth}
 
 
 def main():

@@ -3,7 +3,8 @@
 
 Usage: python3 tests/check.py [--unproved]
 answers/ has short texts whose answers were worked out by hand, preprocessed/ programs as gcc -E writes them. What is
-wanted of NAME.c or NAME.i stands in NAME.expect. answers/types.rows has one program a line, and below it the status and the
+wanted of NAME.c or NAME.i stands in NAME.expect. ../bench/lists has loops over lists. Where choices stand beside a program, as NAME.choices or NAME.2.choices, `replay` is to meet a fault with
+them that stands in NAME.expect, and each error of these with some. answers/types.rows has one program a line, and below it the status and the
 report that are wanted of it as a file t.c, or `passes`, where it passes the check, whatever is found of its runs within 100 states; a line that begins with `# ` says what the rows below it show. replay/replay.rows has such
 rows for `predator replay`: a line between the two has the options and, each behind a `|`, the lines of the choices, which are the file c. It
 prints a line for each that differs; the status is 1 where one does, and where no program stands that was proved from the sources as they are
@@ -19,7 +20,7 @@ HOME = Path(__file__).resolve().parent
 sys.path.insert(0, str(HOME.parent / "tools"))
 from front import run, sources  # noqa: E402
 
-FOLDERS = (("answers", "*.c"), ("preprocessed", "*.i"))
+FOLDERS = (("answers", "*.c"), ("preprocessed", "*.i"), ("../bench/lists", "*.c"))
 ROWS = HOME / "answers" / "types.rows"
 REPLAY_ROWS = HOME / "replay" / "replay.rows"
 # What is answered of a program that passes the check.
@@ -50,6 +51,19 @@ def differing(program, files):
         if got != want:
             count += 1
             print(f"{file.name} differs: wanted {want!r}, got {got!r}")
+    return count
+
+
+def unmet(program, files):
+    """How many of the programs beside which choices stand meet other faults with them than are wanted, or not all of these."""
+    count = 0
+    for file in files:
+        found = sorted(file.parent.glob(f"{file.stem}*.choices"))
+        met = {program.answer(["replay", file.name, kept.name], cwd=file.parent, stdin=subprocess.DEVNULL)[0] for kept in found if re.fullmatch(r"(\.[2-9])?\.choices", kept.name[len(file.stem):])}
+        want, errors = ({re.sub(rb": (?:error|warning): ", b": ", line) + b"\n" for line in wanted(file)[0].split(b"\n") if re.search(word, line)} for word in (rb": (?:error|warning): ", rb": error: "))
+        if met and not errors <= met <= want:
+            count += 1
+            print(f"{file.name} differs: its choices are to meet {want!r}, and meet {met!r}")
     return count
 
 
@@ -127,7 +141,7 @@ def main():
     program.note()
     for folder, pattern in FOLDERS:
         files = sorted((HOME / folder).glob(pattern))
-        count = differing(program, files)
+        count = differing(program, files) + unmet(program, files)
         is_wrong = is_wrong or count > 0 or not files
         print(f"{folder}: {len(files) - count} of {len(files)} programs as wanted")
     for file, read, differ, what in ((ROWS, rows, differing_rows, "programs"), (REPLAY_ROWS, replay_rows, differing_replays, "runs")):

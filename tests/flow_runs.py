@@ -147,6 +147,8 @@ class Run:
     def unless_lost(self, with_roots=True):
         """Kind 7 where a live block from malloc is led to by no chain; without roots, kind 9."""
         waiting = []
+        if not any(b.live and b.kind == "heap" for b in self.memory):
+            return
         if with_roots:
             for variables, registers in [(self.variables, self.registers), *((c[0], c[1]) for c in self.callers)]:
                 waiting += list(variables.values()) + [w[0] for w, _ in registers.values() if not isinstance(w, int)]
@@ -160,7 +162,7 @@ class Run:
             block = self.memory[n]
             if block.live:
                 for at in range(len(block.bytes) - 7):
-                    if not isinstance(block.bytes[at], int):
+                    if not isinstance(block.bytes[at], int) and not isinstance(block.bytes[at + 7], int):
                         word = self.loaded(block.bytes[at:at + 8], True)
                         if not isinstance(word, int):
                             waiting.append(word[0])
