@@ -6,7 +6,9 @@
 
 mod answers;
 mod fault;
+mod folds;
 mod gains;
+mod limits;
 mod scopes;
 mod shown;
 mod spelled;

@@ -9,13 +9,16 @@ ghost use Rattle.reinterpret.specs.Sameness.{may_compare};
 ghost use Rattle.graph.specs.Sizes.{is_scalar_size, value_size};
 
 use crate::answers::{graph_of_text, said};
+use crate::folds::{folding, shown_fold};
 use crate::gains::gaining;
+use crate::limits::limited;
 use crate::scopes::scoped;
 use crate::shown::shown;
 use crate::splits::splitting;
 use block_steps::{allocate, release};
 use cbase::{List, NoMemory, Stop};
 use changes::held_by;
+use fold::Fold;
 use graph::{Graph, Post, Target, Value};
 use heap_steps::{finish, refuse};
 use range_steps::{copy, fill};
@@ -54,6 +57,7 @@ fn answer_of_fields(
                     drop(post);
                     answer
                 }
+                Ok(Came::Fold(fold)) => shown_fold(alloc, fold),
                 Ok(Came::NoRow) => said(alloc, "no row"),
                 Err(error) => Err(error),
             }
@@ -66,6 +70,8 @@ fn answer_of_fields(
 pub enum Came {
     /// Its post.
     Post(Post),
+    /// The first two neighbours that fold, if there are such.
+    Fold(Option<Fold>),
     /// The graph is none that the step may be made from, or there is no such step.
     NoRow,
 }
@@ -308,6 +314,8 @@ pub fn step(
         "allocate" => allocating(alloc, graph, fields.as_slice()),
         "enter" | "leave" | "close" => scoped(alloc, kind, graph, fields.as_slice()),
         "dropped" | "first" | "last" => splitting(alloc, kind, graph, fields.as_slice()),
+        "coarse" => limited(alloc, graph, fields.as_slice()),
+        "foldable" | "folded" => folding(alloc, kind, graph, fields.as_slice()),
         _ => gaining(alloc, kind, graph, fields.as_slice()),
     }
 }
