@@ -46,11 +46,27 @@ int main(void) {
 }
 """
 COUNTER = "int main(void) {\n  int a[8];\n  for (int i = 0; i < 200000; i++) a[i % 8] = i;\n  return 0;\n}\n"
+COUNTERS = "int main(void) {\n  int a[8];\n  for (int i = 0; i < 1000; i++)\n    for (int j = 0; j < 1000; j++) a[j % 8] = i;\n  return 0;\n}\n"
 PUSHED = NODE + """int main(void) {
   struct node *head = 0;
   while (__VERIFIER_nondet_int()) {
     struct node *fresh = malloc(sizeof(struct node));
     if (!fresh) abort();
+    fresh->next = head;
+    head = fresh;
+  }
+  return 0;
+}
+"""
+# nodes that hold a block of their own are not folded
+HOLDING = """struct node { struct node *next; char *own; };
+int main(void) {
+  struct node *head = 0;
+  while (__VERIFIER_nondet_int()) {
+    struct node *fresh = malloc(sizeof(struct node));
+    if (!fresh) abort();
+    fresh->own = malloc(1);
+    if (!fresh->own) abort();
     fresh->next = head;
     head = fresh;
   }
@@ -70,11 +86,11 @@ CHOSEN = """int main(void) {
 """
 
 
-def twenty(count):
-    """Twenty small objects, and a loop with a counter."""
+def twenty(count, inner=""):
+    """Twenty small objects, and a loop with a counter, or one in another."""
     made = "".join(f"  char *p{at} = malloc(8);\n  if (!p{at}) abort();\n" for at in range(20))
     freed = "".join(f"  free(p{at});\n" for at in range(20))
-    return f"int main(void) {{\n{made}  for (int i = 0; i < {count}; i++) p0[i % 8] = 1;\n{freed}  return 0;\n}}\n"
+    return f"int main(void) {{\n{made}  for (int i = 0; i < {count}; i++) {inner}p0[i % 8] = 1;\n{freed}  return 0;\n}}\n"
 
 
 def straight(count):
@@ -83,9 +99,11 @@ def straight(count):
 
 
 PROGRAMS = {"a slot in a loop": SLOT, "three blocks that change places": CHOSEN, "a loop with a counter": COUNTER, "a list of any length": PUSHED, "twenty blocks and a counter": twenty(200_000)}
-# the text for so many states
+# the text for so many states; constants are forgotten beyond GROWING_LIMIT
+GROWING_LIMIT = ("--int-limit", "1000")
 GROWING = {
-    "more text": lambda count: straight(count // 10), "a counter": lambda count: COUNTER, "twenty blocks and a counter": lambda count: twenty(200_000), "a list of any length": lambda count: PUSHED}
+    "more text": lambda count: straight(count // 10), "two counters": lambda count: COUNTERS, "twenty blocks and two counters": lambda count: twenty(1_000, "for (int j = 0; j < 1000; j++) "),
+    "a list that is not folded": lambda count: HOLDING}
 
 
 def taken(words, folder, runs):
@@ -100,9 +118,9 @@ def taken(words, folder, runs):
     return said, best, peak
 
 
-def analysed(program, folder, budget, runs=1):
+def analysed(program, folder, budget, runs=1, more=()):
     """Whether the budget was spent, the time and the peak of memory of a run over `t.c`."""
-    said, seconds, peak = taken([program, "--budget", str(budget), "t.c"], folder, runs)
+    said, seconds, peak = taken([program, "--budget", str(budget), *more, "t.c"], folder, runs)
     if not said.startswith(b"t.c:"):
         sys.exit(f"bench/analysis.py: {said[:100]!r}")
     return SPENT in said, seconds, peak
@@ -159,8 +177,8 @@ def growth(program, given):
         for count in (size for size in SIZES if size <= given.most):
             with tempfile.TemporaryDirectory() as folder:
                 Path(folder, "t.c").write_text(text(count))
-                _, before, floor = analysed(program, folder, 1, given.runs)
-                is_spent, seconds, peak = analysed(program, folder, count, given.runs)
+                _, before, floor = analysed(program, folder, 1, given.runs, GROWING_LIMIT)
+                is_spent, seconds, peak = analysed(program, folder, count, given.runs, GROWING_LIMIT)
             if not is_spent:
                 sys.exit(f"bench/analysis.py: {name} has fewer than {count:,} states")
             each = (seconds - before) / count, (peak - floor) / count
